@@ -1,0 +1,5 @@
+pub mod Shifts
+pub mod Flags
+pub mod Sums
+pub mod Counters
+pub mod Marked

@@ -1,0 +1,16 @@
+use borrow.Author.Needs.{needs}
+use Rattle.datapath.proofs.Sums.{same-beq}
+use Rattle.datapath.proofs.alu.sum_overflows.Statement.{statement}
+use Rattle.datapath.proofs.alu.sum_overflows.Tie as tie
+
+returns : tie.Need-returns
+returns c = simp (same-beq, c .bit3 .ensures, c .before .bit2 .ensures, c .before .before .bit .ensures)
+
+pub sum-overflows-spec : {M : Type 1} → statement M
+sum-overflows-spec =
+    tie.close
+    (tie.spec
+    (λ c κs. search needs)
+    (λ c κs. search needs)
+    (λ c κs. search needs)
+    returns)

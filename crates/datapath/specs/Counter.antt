@@ -1,0 +1,14 @@
+-- The program counter and the words of R15 (paper 01, "R15 read").
+use Prim.Native.Nat.{ℕ, _+_, _*_, _/_, _%_, _^_}
+
+-- counter values are modulo 2^26
+unfoldable pub ahead : ℕ → ℕ → ℕ
+ahead a n = (a + n) % 2 ^ 26
+
+-- the counter that a word stores: its bits 25..2
+unfoldable pub counter : ℕ → ℕ
+counter word = word / 4 % 2 ^ 24 * 4
+
+-- an R15 word: flags in bits 31..28 with a counter
+unfoldable pub r15Word : ℕ → ℕ → ℕ
+r15Word flags a = flags % 16 * 2 ^ 28 + a % 2 ^ 26

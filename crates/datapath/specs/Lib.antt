@@ -1,0 +1,4 @@
+pub mod Shifter
+pub mod Alu
+pub mod Counter
+pub mod Marked

@@ -1,0 +1,56 @@
+-- The shifter: a value shifted, and its carry out (paper 01, "Shifts").
+use Prim.Native.Nat.{ℕ, _+_, _-_, _*_, _/_, _%_, _^_}
+use mathlib.Core.Bool.{Bool, true, false}
+use lib.Dec.{ltb, leb, eqb}
+use Rattle.bits.specs.Choice.{pick}
+use Rattle.bits.specs.Bits.{bit, num}
+use Rattle.datapath.specs.declared.Shifted.{Shifted}
+
+abbrev pub shifted : ℕ → Bool → Shifted
+shifted v c = record { value = v; carry = c }
+
+-- v rotated right by n places, n below 32
+unfoldable pub rotated : ℕ → ℕ → ℕ
+rotated v n = v / 2 ^ n + v % 2 ^ n * 2 ^ (32 - n)
+
+-- v moved right by n places, at most 32, which its sign fills
+unfoldable pub signed : ℕ → ℕ → ℕ
+signed v n = v / 2 ^ n + num (bit v 31) * (2 ^ 32 - 2 ^ (32 - n))
+
+-- by an amount from 1 on: the last bit moved out is the carry, and above 32 all is 0
+unfoldable pub lsl : ℕ → ℕ → Shifted
+lsl v n = pick (leb n 32) (shifted (v * 2 ^ n % 2 ^ 32) (bit v (32 - n))) (shifted 0 false)
+
+unfoldable pub lsr : ℕ → ℕ → Shifted
+lsr v n = pick (leb n 32) (shifted (v / 2 ^ n) (bit v (n - 1))) (shifted 0 false)
+
+-- from 32 on all sign, with carry bit 31
+unfoldable pub asr : ℕ → ℕ → Shifted
+asr v n = pick (ltb n 32) (shifted (signed v n) (bit v (n - 1))) (shifted (signed v 32) (bit v 31))
+
+-- the amount modulo 32; the carry is bit 31 of the result, also where a multiple of 32 keeps the value
+unfoldable pub ror : ℕ → ℕ → Shifted
+ror v n = shifted (rotated v (n % 32)) (bit (rotated v (n % 32)) 31)
+
+-- bits 6..5 of a word: LSL, LSR, ASR, ROR
+unfoldable pub shift : ℕ → ℕ → ℕ → Shifted
+shift kind v n = pick (eqb kind 0) (lsl v n) (pick (eqb kind 1) (lsr v n) (pick (eqb kind 2) (asr v n) (ror v n)))
+
+-- by register: the amount is the low byte of Rs, and 0 keeps value and C
+unfoldable pub byRegister : ℕ → ℕ → ℕ → Bool → Shifted
+byRegister kind v rs c = pick (eqb (rs % 256) 0) (shifted v c) (shift kind v (rs % 256))
+
+-- amount 0 in the word: LSL keeps value and C, LSR and ASR mean 32, ROR means one place right through C
+abbrev pub zeroAmount : ℕ → ℕ → Bool → Shifted
+zeroAmount kind v c =
+    pick (eqb kind 0) (shifted v c)
+    (pick (eqb kind 1) (lsr v 32)
+    (pick (eqb kind 2) (asr v 32)
+    (shifted (v / 2 + num c * 2 ^ 31) (bit v 0))))
+
+unfoldable pub byAmount : ℕ → ℕ → ℕ → Bool → Shifted
+byAmount kind v amount c = pick (eqb amount 0) (zeroAmount kind v c) (shift kind v amount)
+
+-- a constant: rotated right by 2r; r = 0 keeps C
+unfoldable pub constant : ℕ → ℕ → Bool → Shifted
+constant r v c = pick (eqb r 0) (shifted v c) (ror v (2 * r))

@@ -1,0 +1,24 @@
+// The program counter and the words of R15 (paper 01, "R15 read").
+ghost use mathlib.Core.Path.{_≡_};
+ghost use Rattle.datapath.specs.Counter.{ahead, counter, r15Word};
+
+// The counter n bytes on, modulo 2^26.
+pub fn ahead(a: u32, n: u32) -> u32
+    ensures { λ r. ⌜ r ≡ ahead a n ⌝ }
+{
+    std::num::wrapping_add_u32(a, n) % 0x4000000
+}
+
+// The counter that a word stores: its bits 25..2.
+pub fn counter(word: u32) -> u32
+    ensures { λ r. ⌜ r ≡ counter word ⌝ }
+{
+    word / 4 % 0x1000000 * 4
+}
+
+// Flags in bits 31..28 with a counter.
+pub fn r15_word(flags: u32, a: u32) -> u32
+    ensures { λ r. ⌜ r ≡ r15Word flags a ⌝ }
+{
+    flags % 16 * 0x10000000 + a % 0x4000000
+}

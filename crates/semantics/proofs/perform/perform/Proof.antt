@@ -1,0 +1,14 @@
+use mathlib.Core.Path.{refl, sym, _∙_}
+use Rattle.semantics.proofs.Results.{passing, failing}
+use borrow.Author.Needs.{needs}
+use Rattle.semantics.proofs.perform.perform.Statement.{statement}
+use Rattle.semantics.proofs.perform.perform.Tie as tie
+
+returns : tie.Need-returns
+returns c = passing _ _ _ _ _ _ (rw (c .before .before .before .before .before .before .before .field .ensures) at (sym (c .before .before .before .before .before .before .passes .ensures) ∙ c .before .before .before .before .before .if1 .taken)) (c .before .before .execute .ensures)
+
+returns-2 : tie.Need-returns-2
+returns-2 c = failing _ _ _ _ _ _ (rw (c .before .before .field .ensures) at (sym (c .before .passes .ensures) ∙ c .if1 .left)) refl
+
+pub perform-spec : {M : Type 1} → statement M
+perform-spec = tie.close (tie.spec (λ c κs. search needs) (λ c κs. search needs) (λ c κs. search needs) (λ c. search needs) returns returns-2)

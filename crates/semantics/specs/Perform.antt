@@ -1,0 +1,55 @@
+-- The word fetched at an address in a state: its stop, its effect and its duration. Both engines go by these.
+use Prim.Native.Nat.{ℕ, _+_}
+use mathlib.Core.List.{List}
+use lib.Dec.{eqb}
+use Rattle.bits.specs.Choice.{pick}
+use Rattle.bits.specs.Bits.{field}
+use Rattle.word.specs.Reader.{readOf}
+use Rattle.condition.specs.Condition.{passes}
+use Rattle.memory.specs.declared.Fetched.{Fetched}
+use Rattle.memory.specs.declared.Fetched.the-variants.{Word, Blank}
+use Rattle.registers.specs.declared.Goes.{Goes}
+use Rattle.registers.specs.declared.Goes.the-variants.{Next}
+use Rattle.registers.specs.Registers.{out}
+use Rattle.semantics.specs.declared.Board.{Board}
+use Rattle.semantics.specs.declared.Performed.{Performed}
+use Rattle.semantics.specs.Effect.{Effect, effect, effectOf, ownSteps, refills}
+use Rattle.semantics.specs.Stops.{stopOf}
+
+-- the stop it meets, or 0: 21 where there is no word, and a failed condition hides the others
+unfoldable pub stopFor : Fetched → List ℕ → ℕ → ℕ → Board → ℕ
+stopFor Blank g f a board = 21
+stopFor (Word w) g f a board = pick (passes (field w 28 4) f) (stopOf (readOf w) g f a board) 0
+
+-- what it does where it meets no stop: a failed condition does nothing
+unfoldable pub effectFor : Fetched → List ℕ → ℕ → ℕ → List ℕ → Effect
+effectFor Blank g f a mem = effect (out g f Next) mem
+effectFor (Word w) g f a mem = pick (passes (field w 28 4) f) (effectOf (readOf w) g f a mem) (effect (out g f Next) mem)
+
+-- its own steps: a failed condition has one
+unfoldable pub stepsFor : Fetched → List ℕ → ℕ → ℕ
+stepsFor Blank g f = 1
+stepsFor (Word w) g f = pick (passes (field w 28 4) f) (ownSteps (readOf w) g) 1
+
+-- what came of it: registers and memory afterwards, and the rest
+pub record Result : Type 0 where
+  pub performed : Performed
+  pub registers : List ℕ
+  pub memory : List ℕ
+
+abbrev pub resultOf : Performed → List ℕ → List ℕ → Result
+resultOf p g mem = record { performed = p; registers = g; memory = mem }
+
+abbrev pub performed : ℕ → ℕ → Goes → ℕ → Performed
+performed stop f t cycles = record { stop = stop; flags = f; goes = t; cycles = cycles }
+
+-- an effect in its duration: own steps, plus 2 if the counter was stored
+abbrev pub done : ℕ → Effect → Result
+done steps e = resultOf (performed 0 (e .out .flags) (e .out .goes) (steps + refills (e .out .goes))) (e .out .registers) (e .memory)
+
+-- a stop changes only the stop
+abbrev pub resultFor : ℕ → List ℕ → ℕ → List ℕ → ℕ → Effect → Result
+resultFor stop g f mem steps e = pick (eqb stop 0) (done steps e) (resultOf (performed stop f Next 0) g mem)
+
+unfoldable pub performs : Fetched → List ℕ → ℕ → ℕ → List ℕ → Board → Result
+performs x g f a mem board = resultFor (stopFor x g f a board) g f mem (stepsFor x g f) (effectFor x g f a mem)

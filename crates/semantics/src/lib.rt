@@ -1,0 +1,23 @@
+// What both engines share of a whole instruction: its stop, its effect and its duration.
+ghost use mathlib.Core.Path.{_≡_};
+
+pub mod branch;
+pub mod perform;
+pub mod rules;
+pub mod span;
+pub mod stop;
+
+use registers::Goes;
+
+// What a core is built into; later requests add to it.
+pub struct Board {
+    pub length: u32,
+}
+
+// What came of an instruction beside registers and memory: the stop met, or 0; the flags; where the counter goes; the cycles taken.
+pub struct Performed {
+    pub stop: u32,
+    pub flags: u32,
+    pub goes: Goes,
+    pub cycles: u32,
+}

@@ -1,0 +1,280 @@
+// An instruction word in a state: skipped, stopped or done. The registers and the memory are lent, the rest goes by value.
+ghost use mathlib.Core.Path.{_≡_};
+ghost use mathlib.Core.Bool.{true, false};
+ghost use mathlib.Core.List.{List};
+ghost use Prim.Native.Nat.{ℕ, _+_, _≤_};
+ghost use Rattle.word.specs.declared.Instruction.{Instruction};
+ghost use Rattle.word.specs.Reader.{readOf};
+ghost use Rattle.transfer.specs.Block.{count};
+ghost use Rattle.semantics.specs.declared.Board.{Board};
+ghost use Rattle.memory.specs.declared.Fetched.{Fetched};
+ghost use Rattle.registers.specs.declared.Goes.{Goes};
+ghost use Rattle.semantics.specs.Effect.{refills, loadEffect, storeEffect, blockLoadEffect, blockStoreEffect};
+ghost use Rattle.semantics.specs.Perform.{resultOf, performed, done, performs};
+ghost use Rattle.semantics.specs.Executed.{executed};
+use crate::Board;
+use crate::Performed;
+use crate::branch::branch;
+use crate::stop::block_stop;
+use crate::stop::processing_stop;
+use crate::stop::single_stop;
+use bits::bit;
+use bits::field;
+use condition::passes;
+use datapath::counter::ahead;
+use processing::process;
+use processing::reads_at;
+use processing::shifts_by_register;
+use registers::Goes;
+use registers::Turn;
+use registers::arrive;
+use transfer::block;
+use transfer::named::count;
+use transfer::single;
+use word::Block;
+use word::Branch;
+use word::Processing;
+use word::Single;
+use word::reader;
+
+fn refills(goes: Goes) -> u32
+    ensures { λ r. ⌜ r ≡ refills goes ⌝ }
+{
+    match goes {
+        Goes::Next => 0,
+        Goes::To(_) => 2,
+    }
+}
+
+// Done in so many own steps.
+fn done(t: Turn, steps: u32) -> Performed
+    requires { ⌜ steps ≤ 18 ⌝ }
+    ensures { λ r. ⌜ r ≡ performed 0 (t .flags) (t .goes) (steps + refills (t .goes)) ⌝ }
+{
+    let goes = t.goes;
+    Performed {
+        stop: 0,
+        flags: t.flags,
+        goes,
+        cycles: steps + refills(goes),
+    }
+}
+
+fn stopped(stop: u32, flags: u32) -> Performed
+    ensures { λ r. ⌜ r ≡ performed stop flags Goes.Next 0 ⌝ }
+{
+    Performed {
+        stop,
+        flags,
+        goes: Goes::Next,
+        cycles: 0,
+    }
+}
+
+fn perform_processing(i: Processing, registers: &mut [u32; 15], flags: u32, a: u32) -> Performed
+    ensures { λ r. ⌜ ((mem : List ℕ) (board : Board) → resultOf r (now (registers .exit)) mem ≡ executed (Instruction.Processing i) (now (registers .entry)) flags a mem board) ⌝ }
+{
+    let stop = processing_stop(i);
+    if stop != 0 {
+        return stopped(stop, flags);
+    }
+    let o = i.operand;
+    let t = process(i, registers, flags, reads_at(i, a));
+    if shifts_by_register(o) {
+        done(t, 2)
+    } else {
+        done(t, 1)
+    }
+}
+
+fn load(i: Single, registers: &mut [u32; 15], memory: &[u8], flags: u32, pc: u32) -> Performed
+    ensures { λ r. ⌜ resultOf r (now (registers .exit)) (now (memory .entry)) ≡ done 3 (loadEffect i (now (registers .entry)) flags pc (now (memory .entry))) ⌝ }
+{
+    let base = single::changed_base(i, registers, flags, pc);
+    let value = single::loaded_value(i, memory, single::address(i, registers, flags, pc));
+    single::write_base(i, registers, base);
+    done(arrive(registers, flags, i.rd, value), 3)
+}
+
+fn store(i: Single, registers: &mut [u32; 15], memory: &mut [u8], flags: u32, a: u32) -> Performed
+    ensures { λ r. ⌜ resultOf r (now (registers .exit)) (now (memory .exit)) ≡ done 2 (storeEffect i (now (registers .entry)) flags a (now (memory .entry))) ⌝ }
+{
+    let pc = ahead(a, 8);
+    let base = single::changed_base(i, registers, flags, pc);
+    let value = single::stored_value(registers, i.rd, flags, ahead(a, 12));
+    single::store(i, memory, single::address(i, registers, flags, pc), value);
+    single::write_base(i, registers, base);
+    done(
+        Turn {
+            flags,
+            goes: Goes::Next,
+        },
+        2,
+    )
+}
+
+fn perform_single(
+    i: Single,
+    registers: &mut [u32; 15],
+    memory: &mut [u8],
+    flags: u32,
+    a: u32,
+    board: Board,
+) -> Performed
+    ensures { λ r. ⌜ resultOf r (now (registers .exit)) (now (memory .exit)) ≡ executed (Instruction.Single i) (now (registers .entry)) flags a (now (memory .entry)) board ⌝ }
+{
+    let stop = single_stop(i, registers, flags, a, board);
+    if stop != 0 {
+        return stopped(stop, flags);
+    }
+    if i.l {
+        load(i, registers, memory, flags, ahead(a, 8))
+    } else {
+        store(i, registers, memory, flags, a)
+    }
+}
+
+fn load_block(i: Block, registers: &mut [u32; 15], memory: &[u8], flags: u32) -> Performed
+    ensures { λ r. ⌜ resultOf r (now (registers .exit)) (now (memory .entry)) ≡ done (count i + 2) (blockLoadEffect i (now (registers .entry)) flags (now (memory .entry))) ⌝ }
+{
+    let lowest = block::lowest_address(i, registers);
+    block::write_base(i, registers, block::changed_base(i, registers));
+    let n = count(i.list);
+    done(block::load(i.list, registers, flags, lowest, memory), n + 2)
+}
+
+fn store_block(
+    i: Block,
+    registers: &mut [u32; 15],
+    memory: &mut [u8],
+    flags: u32,
+    a12: u32,
+) -> Performed
+    ensures { λ r. ⌜ resultOf r (now (registers .exit)) (now (memory .exit)) ≡ done (count i + 1) (blockStoreEffect i (now (registers .entry)) flags a12 (now (memory .entry))) ⌝ }
+{
+    let n = count(i.list);
+    block::store_all(i, registers, flags, a12, memory);
+    done(
+        Turn {
+            flags,
+            goes: Goes::Next,
+        },
+        n + 1,
+    )
+}
+
+fn perform_block(
+    i: Block,
+    registers: &mut [u32; 15],
+    memory: &mut [u8],
+    flags: u32,
+    a: u32,
+    board: Board,
+) -> Performed
+    ensures { λ r. ⌜ resultOf r (now (registers .exit)) (now (memory .exit)) ≡ executed (Instruction.Block i) (now (registers .entry)) flags a (now (memory .entry)) board ⌝ }
+{
+    let stop = block_stop(i, registers, flags, a, board);
+    if stop != 0 {
+        return stopped(stop, flags);
+    }
+    if i.l {
+        load_block(i, registers, memory, flags)
+    } else {
+        store_block(i, registers, memory, flags, ahead(a, 12))
+    }
+}
+
+fn perform_branch(i: Branch, registers: &mut [u32; 15], flags: u32, a: u32) -> Performed
+    ensures { λ r. ⌜ ((mem : List ℕ) (board : Board) → resultOf r (now (registers .exit)) mem ≡ executed (Instruction.Branch i) (now (registers .entry)) flags a mem board) ⌝ }
+{
+    done(branch(i, registers, flags, a), 1)
+}
+
+// The reader of the class alone, so that it dissolves here.
+fn execute(
+    word: u32,
+    registers: &mut [u32; 15],
+    memory: &mut [u8],
+    flags: u32,
+    a: u32,
+    board: Board,
+) -> Performed
+    ensures { λ r. ⌜ resultOf r (now (registers .exit)) (now (memory .exit)) ≡ executed (readOf word) (now (registers .entry)) flags a (now (memory .entry)) board ⌝ }
+{
+    match reader::class(word) {
+        0 => {
+            if bit(word, 4) {
+                if bit(word, 7) {
+                    stopped(22, flags)
+                } else {
+                    perform_processing(
+                        reader::processing(word, reader::by_register(word)),
+                        registers,
+                        flags,
+                        a,
+                    )
+                }
+            } else {
+                perform_processing(
+                    reader::processing(word, reader::by_amount(word)),
+                    registers,
+                    flags,
+                    a,
+                )
+            }
+        }
+        1 => perform_processing(
+            reader::processing(word, reader::constant(word)),
+            registers,
+            flags,
+            a,
+        ),
+        2 => perform_single(
+            reader::single(word, reader::constant(word)),
+            registers,
+            memory,
+            flags,
+            a,
+            board,
+        ),
+        3 => {
+            if bit(word, 4) {
+                stopped(22, flags)
+            } else {
+                perform_single(
+                    reader::single(word, reader::by_amount(word)),
+                    registers,
+                    memory,
+                    flags,
+                    a,
+                    board,
+                )
+            }
+        }
+        4 => perform_block(reader::block(word), registers, memory, flags, a, board),
+        5 => perform_branch(reader::branch(word), registers, flags, a),
+        _ => stopped(22, flags),
+    }
+}
+
+pub fn perform(
+    word: u32,
+    registers: &mut [u32; 15],
+    memory: &mut [u8],
+    flags: u32,
+    a: u32,
+    board: Board,
+) -> Performed
+    ensures { λ r. ⌜ resultOf r (now (registers .exit)) (now (memory .exit)) ≡ performs (Fetched.Word word) (now (registers .entry)) flags a (now (memory .entry)) board ⌝ }
+{
+    if passes(field(word, 28, 4), flags) {
+        execute(word, registers, memory, flags, a, board)
+    } else {
+        Performed {
+            stop: 0,
+            flags,
+            goes: Goes::Next,
+            cycles: 1,
+        }
+    }
+}

@@ -1,0 +1,67 @@
+// Stops 22 to 25 of an instruction whose condition passes.
+ghost use mathlib.Core.Path.{_≡_};
+ghost use mathlib.Core.Bool.{_||_};
+ghost use mathlib.Core.List.{List, []};
+ghost use Rattle.datapath.specs.Counter.{ahead};
+ghost use Prim.Native.Nat.{ℕ};
+ghost use Rattle.bits.specs.Choice.{pick};
+ghost use Rattle.word.specs.declared.Instruction.{Instruction};
+ghost use Rattle.semantics.specs.Stops.{span, hits, movedStop, stopOf};
+ghost use Rattle.semantics.specs.declared.Board.{Board};
+use crate::Board;
+use crate::rules::block_rule;
+use crate::rules::processing_rule;
+use crate::rules::single_rule;
+use crate::span::hits;
+use crate::span::outside;
+use datapath::counter::ahead;
+use transfer::block::lowest_address;
+use transfer::named::count;
+use transfer::single::address;
+use word::Block;
+use word::Processing;
+use word::Single;
+
+// A word at A+4 or A+8 is among them.
+fn fetched_ahead(first: u32, n: u32, a: u32) -> bool
+    ensures { λ r. ⌜ r ≡ (hits (span n first) (ahead a 4) || hits (span n first) (ahead a 8)) ⌝ }
+{
+    hits(first, n, ahead(a, 4)) | hits(first, n, ahead(a, 8))
+}
+
+// 24 and 25 of n words from a first address on.
+fn moved_stop(first: u32, n: u32, load: bool, a: u32, board: Board) -> u32
+    ensures { λ r. ⌜ r ≡ movedStop (span n first) (pick load [] (span n first)) a board ⌝ }
+{
+    if outside(first, n, board.length) {
+        return 24;
+    }
+    if load {
+        return 0;
+    }
+    if fetched_ahead(first, n, a) { 25 } else { 0 }
+}
+
+pub fn processing_stop(i: Processing) -> u32
+    ensures { λ r. ⌜ ((g : List ℕ) (f a : ℕ) (board : Board) → r ≡ stopOf (Instruction.Processing i) g f a board) ⌝ }
+{
+    if processing_rule(i) == 0 { 0 } else { 23 }
+}
+
+pub fn single_stop(i: Single, registers: &[u32; 15], flags: u32, a: u32, board: Board) -> u32
+    ensures { λ r. ⌜ r ≡ stopOf (Instruction.Single i) (now (registers .entry)) flags a board ⌝ }
+{
+    if single_rule(i) != 0 {
+        return 23;
+    }
+    moved_stop(address(i, registers, flags, ahead(a, 8)), 1, i.l, a, board)
+}
+
+pub fn block_stop(i: Block, registers: &[u32; 15], flags: u32, a: u32, board: Board) -> u32
+    ensures { λ r. ⌜ r ≡ stopOf (Instruction.Block i) (now (registers .entry)) flags a board ⌝ }
+{
+    if block_rule(i) != 0 {
+        return 23;
+    }
+    moved_stop(lowest_address(i, registers), count(i.list), i.l, a, board)
+}

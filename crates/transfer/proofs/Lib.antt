@@ -1,0 +1,3 @@
+pub mod NamedRegisters
+pub mod Moves
+pub mod Lengths

@@ -1,0 +1,162 @@
+// Block transfers (paper 01, "Block"). a12 is what R15 reads as, A+8.
+ghost use mathlib.Core.Path.{_≡_};
+ghost use lib.ListN.{take};
+ghost use Rattle.memory.specs.Memory.{wordBase};
+ghost use Rattle.registers.specs.Registers.{out};
+ghost use Rattle.transfer.specs.Block.{named, baseOf, changedBase, lowestAddress, withBase, next, loads, stores, storesAll};
+use crate::named;
+use crate::single;
+use memory;
+use registers;
+use registers::Goes;
+use registers::Turn;
+use word::Block;
+
+// The address of the next word.
+fn next(address: u32) -> u32
+    ensures { λ r. ⌜ r ≡ next address ⌝ }
+{
+    std::num::wrapping_add_u32(address, 4)
+}
+
+// The base, which is never R15 in an instruction that is done.
+fn base(i: Block, registers: &[u32; 15]) -> u32
+    ensures { λ r. ⌜ r ≡ baseOf i (now (registers .entry)) ⌝ }
+{
+    registers::register(registers, i.rn, 0)
+}
+
+// Base plus or minus 4n.
+pub fn changed_base(i: Block, registers: &[u32; 15]) -> u32
+    ensures { λ r. ⌜ r ≡ changedBase i (now (registers .entry)) ⌝ }
+{
+    single::moved(i.u, base(i, registers), 4 * named::count(i.list))
+}
+
+fn word_base(address: u32) -> u32
+    ensures { λ r. ⌜ r ≡ wordBase address ⌝ }
+{
+    address / 4 * 4
+}
+
+// Where the lowest register goes, low two bits cleared.
+pub fn lowest_address(i: Block, registers: &[u32; 15]) -> u32
+    ensures { λ r. ⌜ r ≡ lowestAddress i (now (registers .entry)) ⌝ }
+{
+    if i.u {
+        let low = base(i, registers);
+        if i.p {
+            word_base(next(low))
+        } else {
+            word_base(low)
+        }
+    } else {
+        let low = changed_base(i, registers);
+        if i.p {
+            word_base(low)
+        } else {
+            word_base(next(low))
+        }
+    }
+}
+
+// Only W writes the base.
+pub fn write_base(i: Block, registers: &mut [u32; 15], base: u32)
+    ensures { λ _. ⌜ now (registers .exit) ≡ withBase i (now (registers .entry)) base ⌝ }
+{
+    if i.w {
+        registers::put(registers, i.rn, base);
+    }
+}
+
+// The named registers loaded, lowest first. The last may be R15, which goes to the counter.
+pub fn load(list: u32, registers: &mut [u32; 15], flags: u32, address: u32, memory: &[u8]) -> Turn
+    ensures { λ r. ⌜ out (now (registers .exit)) (r .flags) (r .goes) ≡ loads (named list) (now (registers .entry)) flags address (now (memory .entry)) ⌝ }
+{
+    let mut left = list;
+    let mut n = named::count(list);
+    let mut at = address;
+    while 1 < n {
+        registers::put(
+            registers,
+            named::lowest(left),
+            memory::read_word(memory, at),
+        );
+        left = named::rest(left);
+        at = next(at);
+        n -= 1;
+    }
+    if n == 0 {
+        return Turn {
+            flags,
+            goes: Goes::Next,
+        };
+    }
+    registers::arrive(
+        registers,
+        flags,
+        named::lowest(left),
+        memory::read_word(memory, at),
+    )
+}
+
+// The named registers stored, lowest first.
+pub fn store(
+    list: u32,
+    registers: &[u32; 15],
+    flags: u32,
+    a12: u32,
+    address: u32,
+    memory: &mut [u8],
+)
+    ensures { λ _. ⌜ now (memory .exit) ≡ stores (named list) (now (registers .entry)) flags a12 address (now (memory .entry)) ⌝ }
+{
+    let mut left = list;
+    let mut n = named::count(list);
+    let mut at = address;
+    while 0 < n {
+        memory::write_word(
+            memory,
+            at,
+            single::stored_value(registers, named::lowest(left), flags, a12),
+        );
+        left = named::rest(left);
+        at = next(at);
+        n -= 1;
+    }
+}
+
+// The lowest named register stored, if there is one.
+fn store_lowest(
+    list: u32,
+    registers: &[u32; 15],
+    flags: u32,
+    a12: u32,
+    address: u32,
+    memory: &mut [u8],
+)
+    ensures { λ _. ⌜ now (memory .exit) ≡ stores (take 1 (named list)) (now (registers .entry)) flags a12 address (now (memory .entry)) ⌝ }
+{
+    if 0 < named::count(list) {
+        memory::write_word(
+            memory,
+            address,
+            single::stored_value(registers, named::lowest(list), flags, a12),
+        );
+    }
+}
+
+// A whole store: the lowest register from the old registers, the others after the base is written.
+pub fn store_all(i: Block, registers: &mut [u32; 15], flags: u32, a12: u32, memory: &mut [u8])
+    ensures { λ _. ⌜ now (registers .exit) ≡ withBase i (now (registers .entry)) (changedBase i (now (registers .entry))) ⌝ }
+    ensures { λ _. ⌜ now (memory .exit) ≡ storesAll (named (i .list)) (now (registers .entry)) (withBase i (now (registers .entry)) (changedBase i (now (registers .entry)))) flags a12 (lowestAddress i (now (registers .entry))) (now (memory .entry)) ⌝ }
+{
+    let list = i.list;
+    let address = lowest_address(i, registers);
+    let base = changed_base(i, registers);
+    store_lowest(list, registers, flags, a12, address, memory);
+    write_base(i, registers, base);
+    let others = named::rest(list);
+    let after = next(address);
+    store(others, registers, flags, a12, after, memory);
+}

@@ -1,0 +1,103 @@
+// Single transfers (paper 01, "Single"). pc is what R15 reads as, A+8.
+ghost use mathlib.Core.Path.{_≡_};
+ghost use Rattle.transfer.specs.Single.{offsetOf, moved, changedBase, addressOf, writesBase, withBase, loadedValue, storedValue, storedTo};
+use datapath::alu;
+use datapath::counter;
+use datapath::shifter;
+use memory;
+use registers;
+use word::Operand;
+use word::Single;
+
+// Twelve bits, or Rm shifted by an amount in the word.
+pub fn offset(o: Operand, registers: &[u32; 15], flags: u32) -> u32
+    ensures { λ r. ⌜ r ≡ offsetOf o (now (registers .entry)) flags ⌝ }
+{
+    match o {
+        Operand::Constant { rotate, value } => std::num::wrapping_add_u32(rotate << 8, value),
+        Operand::ShiftByAmount { rm, shift, amount } => {
+            shifter::by_amount(
+                shift,
+                registers::register(registers, rm, 0),
+                amount,
+                alu::carry_of(flags),
+            ).value
+        }
+        Operand::ShiftByRegister { .. } => 0,
+    }
+}
+
+// A base plus (up) or minus an offset, modulo 2^32.
+pub fn moved(up: bool, base: u32, offset: u32) -> u32
+    ensures { λ r. ⌜ r ≡ moved up base offset ⌝ }
+{
+    if up {
+        std::num::wrapping_add_u32(base, offset)
+    } else {
+        std::num::wrapping_sub_u32(base, offset)
+    }
+}
+
+pub fn changed_base(i: Single, registers: &[u32; 15], flags: u32, pc: u32) -> u32
+    ensures { λ r. ⌜ r ≡ changedBase i (now (registers .entry)) flags pc ⌝ }
+{
+    let o = i.offset;
+    moved(
+        i.u,
+        registers::register(registers, i.rn, pc),
+        offset(o, registers, flags),
+    )
+}
+
+// The changed base, or the base if P = 0.
+pub fn address(i: Single, registers: &[u32; 15], flags: u32, pc: u32) -> u32
+    ensures { λ r. ⌜ r ≡ addressOf i (now (registers .entry)) flags pc ⌝ }
+{
+    if i.p {
+        changed_base(i, registers, flags, pc)
+    } else {
+        registers::register(registers, i.rn, pc)
+    }
+}
+
+pub fn writes_base(i: Single) -> bool
+    ensures { λ r. ⌜ r ≡ writesBase i ⌝ }
+{
+    !i.p | i.w
+}
+
+pub fn write_base(i: Single, registers: &mut [u32; 15], base: u32)
+    ensures { λ _. ⌜ now (registers .exit) ≡ withBase i (now (registers .entry)) base ⌝ }
+{
+    if writes_base(i) {
+        registers::put(registers, i.rn, base);
+    }
+}
+
+// A word comes rotated by its place in the word of memory.
+pub fn loaded_value(i: Single, memory: &[u8], address: u32) -> u32
+    ensures { λ r. ⌜ r ≡ loadedValue i (now (memory .entry)) address ⌝ }
+{
+    if i.b {
+        memory::read_byte(memory, address)
+    } else {
+        shifter::rotate(memory::read_word(memory, address), 8 * (address % 4))
+    }
+}
+
+// Register n as a store sends it: R15 is the flags with `a12`, which is A+12.
+pub fn stored_value(registers: &[u32; 15], n: u32, flags: u32, a12: u32) -> u32
+    ensures { λ r. ⌜ r ≡ storedValue (now (registers .entry)) n flags a12 ⌝ }
+{
+    registers::register(registers, n, counter::r15_word(flags, a12))
+}
+
+pub fn store(i: Single, memory: &mut [u8], address: u32, value: u32)
+    ensures { λ _. ⌜ now (memory .exit) ≡ storedTo i (now (memory .entry)) address value ⌝ }
+{
+    if i.b {
+        memory::write_byte(memory, address, value);
+    } else {
+        memory::write_word(memory, address, value);
+    }
+}

@@ -1,0 +1,4 @@
+pub mod Fields
+pub mod Reader
+pub mod Writer
+pub mod Term2
