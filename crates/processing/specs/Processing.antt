@@ -1,9 +1,10 @@
 -- Data processing (paper 01, "Operations 0-15" and "R15 read"). pc is what R15 reads as: A+8, and A+12 with shift by register.
-use Prim.Native.Nat.{ℕ, _/_, _^_}
+use Prim.Native.Nat.{ℕ}
 use mathlib.Core.Bool.{Bool, true, false}
 use mathlib.Core.List.{List}
 use lib.Dec.{ltb}
 use Rattle.bits.specs.Choice.{pick}
+use Rattle.bits.specs.Bits.{field}
 use Rattle.word.specs.declared.Operand.{Operand}
 use Rattle.word.specs.declared.Operand.the-variants.{Constant, ShiftByAmount, ShiftByRegister}
 use Rattle.word.specs.declared.Processing.{Processing}
@@ -29,7 +30,7 @@ computedOf i g f pc b =
 
 -- the flags with S; with Rd = 15 they are result bits 31..28
 unfoldable pub flagsAfter : Processing → ℕ → Computed → ℕ
-flagsAfter i f r = pick (i .s) (pick (ltb (i .rd) 15) (flagsOf r) (r .value / 2 ^ 28)) f
+flagsAfter i f r = pick (i .s) (pick (ltb (i .rd) 15) (flagsOf r) (field (r .value) 28 4)) f
 
 -- TST to CMN store no result
 unfoldable pub stored : Processing → List ℕ → ℕ → Computed → Out

@@ -2,6 +2,7 @@
 ghost use mathlib.Core.Path.{_≡_};
 ghost use Rattle.registers.specs.Registers.{out};
 ghost use Rattle.processing.specs.Processing.{operandOf, computedOf, flagsAfter, stored, processed, byRegister?, readsAt};
+use bits::field;
 use datapath::Computed;
 use datapath::Shifted;
 use datapath::alu::carry_of;
@@ -47,7 +48,7 @@ fn flags_after(i: Processing, flags: u32, r: Computed) -> u32
         if i.rd < 15 {
             flags_of(r)
         } else {
-            r.value >> 28
+            field(r.value, 28, 4)
         }
     } else {
         flags

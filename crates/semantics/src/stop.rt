@@ -8,19 +8,25 @@ ghost use Rattle.bits.specs.Choice.{pick};
 ghost use Rattle.word.specs.declared.Instruction.{Instruction};
 ghost use Rattle.semantics.specs.Stops.{span, hits, movedStop, stopOf};
 ghost use Rattle.semantics.specs.declared.Board.{Board};
+ghost use Rattle.semantics.specs.Perform.{stopFor};
 use crate::Board;
 use crate::rules::block_rule;
 use crate::rules::processing_rule;
 use crate::rules::single_rule;
 use crate::span::hits;
 use crate::span::outside;
+use bits::field;
+use condition::passes;
 use datapath::counter::ahead;
+use memory::Fetched;
 use transfer::block::lowest_address;
 use transfer::named::count;
 use transfer::single::address;
 use word::Block;
+use word::Instruction;
 use word::Processing;
 use word::Single;
+use word::reader::read;
 
 // A word at A+4 or A+8 is among them.
 fn fetched_ahead(first: u32, n: u32, a: u32) -> bool
@@ -64,4 +70,31 @@ pub fn block_stop(i: Block, registers: &[u32; 15], flags: u32, a: u32, board: Bo
         return 23;
     }
     moved_stop(lowest_address(i, registers), count(i.list), i.l, a, board)
+}
+
+// An Other meets 22, and a branch meets none.
+fn instruction_stop(i: Instruction, registers: &[u32; 15], flags: u32, a: u32, board: Board) -> u32
+    ensures { λ r. ⌜ r ≡ stopOf i (now (registers .entry)) flags a board ⌝ }
+{
+    match i {
+        Instruction::Processing(p) => processing_stop(p),
+        Instruction::Single(s) => single_stop(s, registers, flags, a, board),
+        Instruction::Block(b) => block_stop(b, registers, flags, a, board),
+        Instruction::Branch(_) => 0,
+        Instruction::Other(_) => 22,
+    }
+}
+
+// The stop that what was fetched at `a` meets, or 0.
+pub fn stop_for(x: Fetched, registers: &[u32; 15], flags: u32, a: u32, board: Board) -> u32
+    ensures { λ r. ⌜ r ≡ stopFor x (now (registers .entry)) flags a board ⌝ }
+{
+    let Fetched::Word(word) = x else {
+        return 21;
+    };
+    if passes(field(word, 28, 4), flags) {
+        instruction_stop(read(word), registers, flags, a, board)
+    } else {
+        0
+    }
 }

@@ -10,11 +10,12 @@ returns c = simp (c .flags-of .ensures, lt-ltb _ _ (c .before .if2 .taken), lt-l
 
 returns-2 : tie.Need-returns-2
 unfolding flagsAfter
-returns-2 c = simp (le-leb _ _ (c .before .if2 .left), le-ltb _ _ (c .before .if2 .left), c .before .before .before .if1 .taken)
+returns-2 c = simp (c .field .ensures, le-leb _ _ (c .before .if2 .left), le-ltb _ _ (c .before .if2 .left), c .before .before .before .if1 .taken)
 
 returns-3 : tie.Need-returns-3
 unfolding flagsAfter
 returns-3 c = simp (c .if1 .left)
 
 pub flags-after-spec : {M : Type 1} → statement M
-flags-after-spec = tie.close (tie.spec (λ c κs. search needs) returns returns-2 returns-3)
+flags-after-spec =
+    tie.close (tie.spec (λ c κs. search needs) (λ c κs. search needs) returns returns-2 returns-3)
