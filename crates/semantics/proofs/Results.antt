@@ -16,7 +16,8 @@ use Rattle.word.specs.declared.Instruction.{Instruction}
 use Rattle.word.specs.Reader.{readOf}
 use Rattle.condition.specs.Condition.{passes}
 use Rattle.datapath.specs.Counter.{ahead}
-use Rattle.memory.specs.declared.Fetched.the-variants.{Word}
+use Rattle.memory.specs.declared.Fetched.{Fetched}
+use Rattle.memory.specs.declared.Fetched.the-variants.{Word, Blank}
 use Rattle.registers.specs.declared.Goes.{Goes}
 use Rattle.registers.specs.declared.Goes.the-variants.{Next}
 use Rattle.registers.specs.Registers.{Out, out, arrives}
@@ -129,3 +130,14 @@ module _ (w : ℕ) (g : List ℕ) (f a : ℕ) (mem : List ℕ) (board : Board) w
 pub read-as : {i j : Instruction} (g : List ℕ) (f a : ℕ) (mem : List ℕ) (board : Board) {r : Result}
     → i ≡ j → r ≡ executed i g f a mem board → r ≡ executed j g f a mem board
 read-as g f a mem board e q = q ∙ ap (λ i. executed i g f a mem board) e
+
+-- ---- what was fetched
+
+pub fetched-as : {x y : Fetched} (g : List ℕ) (f a : ℕ) (mem : List ℕ) (board : Board) {r : Result}
+    → x ≡ y → r ≡ performs y g f a mem board → r ≡ performs x g f a mem board
+fetched-as g f a mem board e q = q ∙ ap (λ x. performs x g f a mem board) (sym e)
+
+pub blank-stop : (g : List ℕ) (f a : ℕ) (mem : List ℕ) (board : Board) {p : Performed}
+    → p ≡ performed 21 f Next 0 → resultOf p g mem ≡ performs Blank g f a mem board
+unfolding performs stopFor
+blank-stop g f a mem board q = ap (λ (x : Performed). resultOf x g mem) q

@@ -8,6 +8,7 @@ ghost use Rattle.word.specs.Reader.{readOf};
 ghost use Rattle.transfer.specs.Block.{count};
 ghost use Rattle.semantics.specs.declared.Board.{Board};
 ghost use Rattle.memory.specs.declared.Fetched.{Fetched};
+ghost use Rattle.memory.specs.Memory.{wordAt};
 ghost use Rattle.registers.specs.declared.Goes.{Goes};
 ghost use Rattle.semantics.specs.Effect.{refills, loadEffect, storeEffect, blockLoadEffect, blockStoreEffect};
 ghost use Rattle.semantics.specs.Perform.{resultOf, performed, done, performs};
@@ -22,6 +23,8 @@ use bits::bit;
 use bits::field;
 use condition::passes;
 use datapath::counter::ahead;
+use memory::Fetched;
+use memory::fetch;
 use processing::process;
 use processing::reads_at;
 use processing::shifts_by_register;
@@ -276,5 +279,21 @@ pub fn perform(
             goes: Goes::Next,
             cycles: 1,
         }
+    }
+}
+
+// What is fetched at `a`, performed there.
+pub fn perform_at(
+    registers: &mut [u32; 15],
+    memory: &mut [u8],
+    flags: u32,
+    a: u32,
+    board: Board,
+) -> Performed
+    ensures { λ r. ⌜ resultOf r (now (registers .exit)) (now (memory .exit)) ≡ performs (wordAt (now (memory .entry)) a) (now (registers .entry)) flags a (now (memory .entry)) board ⌝ }
+{
+    match fetch(memory, a) {
+        Fetched::Word(word) => perform(word, registers, memory, flags, a, board),
+        Fetched::Blank => stopped(21, flags),
     }
 }

@@ -1,0 +1,14 @@
+pub mod OwnSteps
+pub mod Reading
+pub mod Closing
+pub mod Refusals
+pub mod Turns
+pub mod Kept
+pub mod Flight
+pub mod Instruction
+pub mod PlainSteps
+pub mod Sound
+pub mod Position
+pub mod Lists
+pub mod WholeSteps
+pub mod Marked

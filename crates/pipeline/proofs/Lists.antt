@@ -1,0 +1,407 @@
+-- Term 3, proved: an induction over the list of calls, with the core's position as its invariant.
+-- Assumes nothing.
+use Prim.Native.Nat.{ℕ, zero, suc, pred, _+_, _-_, _%_, _^_, _≤_, _<_}
+use mathlib.Core.Path.{_≡_, refl, sym, ap, _∙_}
+use mathlib.Core.List.{List, [], _∷_}
+use mathlib.Core.Bool.{Bool, true, false, not, _||_, _&&_}
+use mathlib.Core.Logic.{_≢_, _⊎_, inl, inr, ⊎-elim}
+use native.Mathlib.Omega.{arith}
+use native.Mathlib.Decide.{decLt}
+use native.Mathlib.Nat.{eq-or-lt-of-le, le-of-suc-le-suc}
+use lib.ListN.{length}
+use lib.Dec.{ltb, leb, eqb}
+use borrow.Author.Tests.{lt-ltb, le-ltb, le-leb, eq-eqb, ne-eqb, ltb-true, ltb-false, eqb-true, eqb-false}
+use Rattle.bits.specs.Choice.{pick}
+use Rattle.memory.specs.declared.Fetched.the-variants.{Blank}
+use Rattle.semantics.specs.Perform.{stopFor}
+use Rattle.plain.specs.Machine as plain
+use Rattle.plain.specs.Numbers.{badLength, badEntry, badFlags, badBudget, isCounter, isStop, startAnswer}
+use Rattle.plain.specs.Trace.{trace, stopMet, duration, durations}
+use Rattle.pipeline.specs.declared.Phase.{Phase}
+use Rattle.pipeline.specs.declared.Phase.the-variants.{Step1, Refill1, Refill2, Later}
+use Rattle.pipeline.specs.Machine.{Machine}
+use Rattle.pipeline.specs.Cycle.{cycle}
+use Rattle.pipeline.specs.Numbers.{stopFound, heldAway, badPhase, mostCycles, bad, refusal}
+use Rattle.pipeline.specs.Run.{holding, Ran, ran, oneMore, runFrom, repeated, answered, run}
+use Rattle.pipeline.specs.Term3.{fresh, plainFresh, sums, Does, Stops, Call, call, Reply, reply, calls, replies, Accepted, Answers, other-length, too-many, too-far, repeats, stops, spends, AllAnswer, none, more}
+use Rattle.pipeline.specs.Term3.{reach, boundary, Greatest, Distance, lead, Leaves, Term3}
+use Rattle.pipeline.proofs.Kept.{or-false}
+use Rattle.pipeline.proofs.Flight.{away, Aloft, Flight}
+use Rattle.pipeline.proofs.PlainSteps.{duration-flight, flight, Stop, stop-met}
+use Rattle.pipeline.proofs.Position.{Pos, advance, started, boundary-stop, sums-step, ranged, away-quiet}
+
+reach-stop : (m : Machine) (t : ℕ) → reach m t .control .stop ≡ m .control .stop
+unfolding reach cycle
+reach-stop m zero = refl
+reach-stop m (suc t) = reach-stop m t
+
+reach-length : (m : Machine) (t : ℕ) → reach m t .control .length ≡ m .control .length
+unfolding reach cycle
+reach-length m zero = refl
+reach-length m (suc t) = reach-length m t
+
+reach-cycles : (m : Machine) (t : ℕ) → m .control .cycles ≡ 0 → reach m t .control .cycles ≡ t
+unfolding reach cycle
+reach-cycles m zero e = e
+reach-cycles m (suc t) e = ap suc (reach-cycles m t e)
+
+holding-none : (m : Machine) → m .control .stop ≡ 0 → holding m 0 ≡ m
+holding-none m e = ap (holding m) (sym e)
+
+none-held : (ph : Phase) → heldAway ph 0 ≡ false
+none-held Step1 = refl
+none-held Refill1 = refl
+none-held Refill2 = refl
+none-held (Later k) = refl
+
+away-step1 : (ph : Phase) → away ph ≡ true → ph ≡ Step1 → ⊥
+away-step1 Step1 e h = let z : _≡_ {A = ℕ} 0 1 = cc in omega arith
+away-step1 Refill1 e h = let z : _≡_ {A = ℕ} 0 1 = cc in omega arith
+away-step1 Refill2 e h = let z : _≡_ {A = ℕ} 0 1 = cc in omega arith
+away-step1 (Later k) e h = let z : _≡_ {A = ℕ} 0 1 = cc in omega arith
+
+-- a stop that is met is one that a record can hold
+is-stop : (q : ℕ) → Stop q → isStop q ≡ true
+is-stop q h = ⊎-elim (λ e. rw e) (λ r. go (eqb q 0) r) h
+  where
+    go : (b : Bool) → (21 ≤ q) × (q ≤ 25) → (b || (leb 21 q && leb q 25)) ≡ true
+    go true r = refl
+    go false r = rw (le-leb 21 q (r .0), le-leb q 25 (r .1))
+
+module _ (p : plain.Machine) (m₀ : Machine) (r₀ : p .plain .a < 2 ^ 26) (s₀ : p .plain .length ≤ 65536) where
+  -- a run that used its budget, and one that found a stop
+  record Spent (t b : ℕ) (r : Ran) : Type 0 where
+    to : ℕ
+    sum : to ≡ t + b
+    pos : Pos p m₀ r₀ s₀ to
+    is : r ≡ ran 0 b (reach m₀ to)
+
+  record Halted (t b : ℕ) (r : Ran) : Type 0 where
+    to : ℕ
+    u : ℕ
+    q : ℕ
+    sum : to ≡ t + u
+    less : u < b
+    pos : Pos p m₀ r₀ s₀ to
+    at : pos .n ≡ 0
+    stop : stopMet (trace p (pos .k)) ≡ suc q
+    is : r ≡ ran (suc q) u (holding (reach m₀ to) (suc q))
+
+  -- a stop is found on a boundary, and is the plain machine's
+  found : {t : ℕ} (c : Pos p m₀ r₀ s₀ t) (q : ℕ) → stopFound (reach m₀ t) ≡ suc q → (c .n ≡ 0) × (stopMet (trace p (c .k)) ≡ suc q)
+  found {t} c q e = go (c .n) (c .u) (c .flying)
+    where
+      go : (n u : ℕ) → Flight (pred (c .k)) u n (reach m₀ t) (boundary (trace p (c .k)) (c .k) (sums p (c .k)))
+          → (n ≡ 0) × (stopMet (trace p (c .k)) ≡ suc q)
+      go zero u f = (refl, sym (boundary-stop (trace p (c .k)) (c .k) (sums p (c .k)) (ranged p m₀ r₀ s₀ (c .k))) ∙ rw f at e)
+      go (suc n) u f =
+          absurd (let z : stopFound (reach m₀ t) ≡ 0 = unfold stopFound in away-quiet (reach m₀ t .control .phase) _ (f .0 .off) in omega arith)
+
+  running : (b : ℕ) {t : ℕ} → Pos p m₀ r₀ s₀ t → Spent t b (runFrom b (reach m₀ t)) ⊎ Halted t b (runFrom b (reach m₀ t))
+  unfolding runFrom reach
+  running zero {t} c = inl (record { to = t; sum = omega arith; pos = c; is = refl })
+  running (suc b) {t} c = go (stopFound (reach m₀ t)) refl (λ e. running b (advance p m₀ r₀ s₀ c e))
+    where
+      go : (q : ℕ) → stopFound (reach m₀ t) ≡ q
+          → (stopFound (reach m₀ t) ≡ 0 → Spent (suc t) b (runFrom b (reach m₀ (suc t))) ⊎ Halted (suc t) b (runFrom b (reach m₀ (suc t))))
+          → Spent t (suc b) (runFrom (suc b) (reach m₀ t)) ⊎ Halted t (suc b) (runFrom (suc b) (reach m₀ t))
+      go zero e ih =
+          rw (e, runFrom)
+          (⊎-elim
+          (λ r. inl (record { to = r .to; sum = omega arith; pos = r .pos; is = ap oneMore (r .is) }))
+          (λ r. inr (record { to = r .to; u = suc (r .u); q = r .q; sum = omega arith; less = omega arith; pos = r .pos; at = r .at; stop = r .stop; is = ap oneMore (r .is) }))
+          (ih e))
+      go (suc q) e ih =
+          let f = found c q e in
+          rw (e, runFrom) (inr (record { to = t; u = 0; q = q; sum = omega arith; less = omega arith; pos = c; at = f .0; stop = f .1; is = refl }))
+
+  -- ---- sums
+
+  sums-le : (k : ℕ) {j : ℕ} → j ≤ k → sums p j ≤ sums p k
+  sums-le zero {j} h = let e : j ≡ 0 = omega arith in rw e (omega arith)
+  sums-le (suc k) {j} h = ⊎-elim (λ e. rw e (omega arith)) (λ l. omega (arith, sums-le k (le-of-suc-le-suc l), sums-step p k)) (eq-or-lt-of-le h)
+
+  -- durations of instructions that are done are not 0
+  sums-lt : (k : ℕ) {j : ℕ} → Does p k → j < k → sums p j < sums p k
+  sums-lt k {j} d h = omega (arith, sums-le k h, sums-step p j, duration-flight (trace p j) (d j h))
+
+  -- k instructions done, and a stop: it comes after them
+  later-stop : {k t q : ℕ} → Does p k → Stops p t q → sums p k ≤ t
+  later-stop {k} {t} d z = go (decLt (z .k) k)
+    where
+      go : Dec (z .k < k) → sums p k ≤ t
+      go (yes l) = absurd (z .real (sym (z .stop) ∙ d (z .k) l))
+      go (no g) = omega (arith, sums-le (z .k) {j = k} (omega arith), z .total)
+
+  sums-below : (j k : ℕ) → sums p j < sums p k → j < k
+  sums-below j k h = go (decLt j k)
+    where
+      go : Dec (j < k) → j < k
+      go (yes l) = l
+      go (no l) = absurd (omega (arith, sums-le j {j = k} (omega arith)))
+
+  sums-inj : {j k : ℕ} → Does p j → Does p k → sums p j ≡ sums p k → j ≡ k
+  sums-inj {j} {k} dj dk e = go (decLt j k) (decLt k j)
+    where
+      go : Dec (j < k) → Dec (k < j) → j ≡ k
+      go (yes l) m = absurd (omega (arith, sums-lt k dk l))
+      go (no l) (yes m) = absurd (omega (arith, sums-lt j dj m))
+      go (no l) (no m) = omega arith
+
+  -- the list so far: total t, and stop q answered
+  record Here (t q : ℕ) : Type 0 where
+    pos : Pos p m₀ r₀ s₀ t
+    small : t ≤ mostCycles
+    stop : (q ≡ 0) ⊎ ((pos .n ≡ 0) × (stopMet (trace p (pos .k)) ≡ q))
+
+  -- on a boundary, or off it
+  view : {t : ℕ} (c : Pos p m₀ r₀ s₀ t)
+      → ((c .n ≡ 0) × (t ≡ sums p (c .k)) × (reach m₀ t ≡ boundary (trace p (c .k)) (c .k) t)) ⊎ ((0 < c .n) × Aloft (pred (c .k)) (c .u) (reach m₀ t))
+  view {t} c = go (c .n) (c .total) (c .flying)
+    where
+      go : (n : ℕ) → t + n ≡ sums p (c .k) → Flight (pred (c .k)) (c .u) n (reach m₀ t) (boundary (trace p (c .k)) (c .k) (sums p (c .k)))
+          → ((n ≡ 0) × (t ≡ sums p (c .k)) × (reach m₀ t ≡ boundary (trace p (c .k)) (c .k) t)) ⊎ ((0 < n) × Aloft (pred (c .k)) (c .u) (reach m₀ t))
+      go zero e f = let i : t ≡ sums p (c .k) = omega arith in inl (refl, i, f ∙ ap (boundary (trace p (c .k)) (c .k)) (sym i))
+      go (suc n) e f = inr (omega arith, f .0)
+
+  held-here : {t q : ℕ} → Here t q → heldAway (reach m₀ t .control .phase) q ≡ false
+  unfolding boundary
+  held-here {t} {q} h =
+      ⊎-elim
+      (λ e. rw e (none-held (reach m₀ t .control .phase)))
+      (λ e. ⊎-elim (λ v. rw (v .2)) (λ v. absurd (omega (arith, e .0, v .0))) (view (h .pos)))
+      (h .stop)
+
+  stop-here : {t q : ℕ} → Here t q → isStop q ≡ true
+  stop-here {t} {q} h = ⊎-elim (λ e. rw e) (λ e. is-stop q (rw (e .1) at (stop-met (trace p (h .pos .k))))) (h .stop)
+
+  module _ (n : ℕ) (good : badLength n ≡ false) (same-length : m₀ .control .length ≡ n) (no-cycles : m₀ .control .cycles ≡ 0) (no-stop : m₀ .control .stop ≡ 0) where
+    abbrev Result : Call → ℕ → ℕ → Ran → Type 0
+    Result c t q r = (t′ : ℕ) × (q′ : ℕ) × Answers p n t q c (reply (r .answer) (r .used)) t′ q′ × (r .machine ≡ holding (reach m₀ t′) q′) × Here t′ q′
+
+    -- 11 doesn't come up
+    sound : {t q : ℕ} → Here t q → bad (holding (reach m₀ t) q .registers) (holding (reach m₀ t) q .control) ≡ false
+    unfolding bad
+    sound {t} {q} h =
+        let s = h .pos .sound in
+        let m = reach m₀ t in
+        let length-good : badLength (m .control .length) ≡ false = rw (reach-length m₀ t ∙ same-length) good in
+        let fine : badPhase (m .control .phase) (m .registers) (holding m q .control) ≡ false = phase-fine (m .control .phase) (s .fine) in
+        rw (
+          fine,
+          length-good,
+          eq-eqb (m .control .pc % 4) 0 (s .aligned),
+          lt-ltb (m .control .pc) (2 ^ 26) (s .range),
+          le-ltb 15 (m .control .flags) (omega (arith, s .flags)),
+          reach-cycles m₀ t no-cycles,
+          le-ltb mostCycles t (h .small),
+          le-ltb t (m .control .retired) (rw (reach-cycles m₀ t no-cycles) at (s .counts)),
+          stop-here h,
+          held-here h,
+        )
+      where
+        phase-fine : (ph : Phase) → badPhase ph (reach m₀ t .registers) (reach m₀ t .control) ≡ false → badPhase ph (reach m₀ t .registers) (holding (reach m₀ t) q .control) ≡ false
+        phase-fine Step1 e = refl
+        phase-fine Refill1 e = refl
+        phase-fine Refill2 e = refl
+        phase-fine (Later k) e = e
+
+    ran-on : (c : Call) (t : ℕ) {r : Ran} → Accepted n t c → Spent t (c .budget) r ⊎ Halted t (c .budget) r → Result c t 0 r
+    ran-on c t a (inl x) =
+        rw (x .is) (
+          x .to,
+          0,
+          spends a refl (x .sum) (λ t″ q″ z. omega (arith, later-stop (x .pos .does) z, x .pos .total)),
+          sym (holding-none (reach m₀ (x .to)) (reach-stop m₀ (x .to) ∙ no-stop)),
+          record { pos = x .pos; small = omega (arith, a .near, x .sum); stop = inl refl },
+        )
+    ran-on c t a (inr x) =
+        let z : Stops p (x .to) (suc (x .q)) = record { k = x .pos .k; does = x .pos .does; total = omega (arith, x .pos .total, x .at); stop = x .stop; real = λ e. omega arith } in
+        let d : x .u ≡ x .to - t = omega (arith, x .sum) in
+        rw (x .is, d) (
+          x .to,
+          suc (x .q),
+          stops a refl z (omega (arith, x .less, x .sum)),
+          refl,
+          record { pos = x .pos; small = omega (arith, x .less, x .sum, a .near); stop = inr (x .at, x .stop) },
+        )
+
+    accept : (c : Call) (t q : ℕ) → Accepted n t c → Here t q → Result c t q (repeated q (c .budget) (holding (reach m₀ t) q))
+    accept c t zero a h = rw (holding-none (reach m₀ t) (reach-stop m₀ t ∙ no-stop)) (ran-on c t a (running (c .budget) (h .pos)))
+    accept c t (suc q) a h = (t, suc q, repeats a (λ e. omega arith), refl, h)
+
+    -- what a run refuses with, at total t
+    refuses : (c : Call) (t q : ℕ) → Here t q → refusal (c .lent) (c .budget) (holding (reach m₀ t) q)
+        ≡ pick (not (eqb (c .lent) n)) 12 (pick (ltb 1000000 (c .budget)) 3 (pick (ltb mostCycles (t + c .budget)) 13 0))
+    unfolding refusal
+    refuses c t q h = rw (sound h, reach-length m₀ t ∙ same-length, reach-cycles m₀ t no-cycles)
+
+    one : (c : Call) (t q : ℕ) → Here t q → Result c t q (call c (holding (reach m₀ t) q))
+    unfolding run
+    one c t q h = rw (refuses c t q h) (by-length (eqb (c .lent) n) refl)
+      where
+        m : Machine
+        m = holding (reach m₀ t) q
+
+        by-total : (b : Bool) → c .lent ≡ n → c .budget ≤ 1000000 → ltb mostCycles (t + c .budget) ≡ b → Result c t q (answered (pick b 13 0) (c .budget) m)
+        by-total true l s e = (t, q, too-far l s (ltb-true _ _ e), refl, h)
+        by-total false l s e = accept c t q (record { lent = l; small = s; near = ltb-false _ _ e }) h
+
+        by-budget : (b : Bool) → c .lent ≡ n → ltb 1000000 (c .budget) ≡ b
+            → Result c t q (answered (pick b 3 (pick (ltb mostCycles (t + c .budget)) 13 0)) (c .budget) m)
+        by-budget true l e = (t, q, too-many l (ltb-true _ _ e), refl, h)
+        by-budget false l e = by-total (ltb mostCycles (t + c .budget)) l (ltb-false _ _ e) refl
+
+        by-length : (b : Bool) → eqb (c .lent) n ≡ b
+            → Result c t q (answered (pick (not b) 12 (pick (ltb 1000000 (c .budget)) 3 (pick (ltb mostCycles (t + c .budget)) 13 0))) (c .budget) m)
+        by-length true e = by-budget (ltb 1000000 (c .budget)) (eqb-true _ _ e) refl
+        by-length false e = (t, q, other-length (eqb-false _ _ e), refl, h)
+
+    all : (cs : List Call) (t q : ℕ) → Here t q
+        → (t′ : ℕ) × (q′ : ℕ) × AllAnswer p n t q cs (replies cs (holding (reach m₀ t) q)) t′ q′ × (calls cs (holding (reach m₀ t) q) ≡ holding (reach m₀ t′) q′) × Here t′ q′
+    unfolding replies calls
+    all [] t q h = (t, q, none, refl, h)
+    all (c ∷ cs) t q h =
+        let (t₁, q₁, a, e, h₁) = one c t q h in
+        let (t₂, q₂, b, e₂, h₂) = all cs t₁ q₁ h₁ in
+        rw e (t₂, q₂, more a b, e₂, h₂)
+
+    -- ---- what is left
+
+    -- sums below that of k are below t, where t is past the one before k
+    before : {t : ℕ} (c : Pos p m₀ r₀ s₀ t) {j : ℕ} → j < c .k → sums p j < t
+    before {t} c {j} h = go (c .k) refl
+      where
+        go : (k : ℕ) → c .k ≡ k → sums p j < t
+        go zero e = absurd (omega arith)
+        go (suc i) e = omega (arith, c .past i e, sums-le i {j = j} (omega arith))
+
+    least : {t : ℕ} (c : Pos p m₀ r₀ s₀ t) (j : ℕ) → t ≤ sums p j → sums p (c .k) ≤ sums p j
+    least c j h = go (decLt j (c .k))
+      where
+        go : Dec (j < c .k) → sums p (c .k) ≤ sums p j
+        go (yes l) = absurd (omega (arith, before c l))
+        go (no l) = sums-le j (omega arith)
+
+    boundary-retired : (m : plain.Machine) (k t : ℕ) → boundary m k t .control .retired ≡ k
+    unfolding boundary
+    boundary-retired m k t = refl
+
+    boundary-lead : (m : plain.Machine) (k t : ℕ) → lead (boundary m k t) ≡ 2
+    unfolding boundary lead
+    boundary-lead m k t = refl
+
+    greatest-off : {t : ℕ} (c : Pos p m₀ r₀ s₀ t) → 0 < c .n → Greatest p t (pred (c .k))
+    greatest-off {t} c h = go (c .k) refl
+      where
+        go : (k : ℕ) → c .k ≡ k → Greatest p t (pred k)
+        go zero e = record {
+          fits = inr refl;
+          most = λ j d l. absurd (omega (arith, sums-le j {j = 0} (omega arith), rw e at (c .total)));
+        }
+        go (suc i) e = record {
+          fits = inl (λ j l. c .does j (omega arith), omega (arith, c .past i e));
+          most = λ j d l. le-of-suc-le-suc (sums-below j (suc i) (omega (arith, rw e at (c .total))));
+        }
+
+    greatest-at : {t : ℕ} (c : Pos p m₀ r₀ s₀ t) → t ≡ sums p (c .k) → Greatest p t (c .k)
+    greatest-at {t} c e = record { fits = inl (c .does, omega arith); most = λ j d l. go j d l (decLt (c .k) j) }
+      where
+        go : (j : ℕ) → Does p j → sums p j ≤ t → Dec (c .k < j) → j ≤ c .k
+        go j d l (yes h) = absurd (omega (arith, sums-lt j d h))
+        go j d l (no h) = omega arith
+
+    greatest : {t : ℕ} (c : Pos p m₀ r₀ s₀ t) → Greatest p t (reach m₀ t .control .retired)
+    greatest {t} c =
+        ⊎-elim (λ v. rw (v .2, boundary-retired) (greatest-at c (v .1))) (λ v. rw (v .1 .retired) (greatest-off c (v .0))) (view c)
+
+    counted : {t : ℕ} (c : Pos p m₀ r₀ s₀ t) → t ≡ durations p (reach m₀ t .control .retired) + lead (reach m₀ t)
+    counted {t} c =
+        ⊎-elim
+        (λ v. v .1 ∙ rw (v .2, boundary-lead, boundary-retired) (unfold sums in omega arith))
+        (λ v. c .counted ∙ rw (v .1 .beyond, v .1 .retired))
+        (view c)
+
+    lead-held : (m : Machine) (q : ℕ) → lead (holding m q) ≡ lead m
+    unfolding lead
+    lead-held m q = refl
+
+    leaves : {t q : ℕ} → Here t q → Leaves p m₀ (holding (reach m₀ t) q) t q
+    leaves {t} {q} h = record {
+      is = refl;
+      cycles = reach-cycles m₀ t no-cycles;
+      stop = refl;
+      retired = greatest (h .pos);
+      counted = counted (h .pos) ∙ ap (λ x. durations p (reach m₀ t .control .retired) + x) (sym (lead-held (reach m₀ t) q));
+      distance = (h .pos .n, record { k = h .pos .k; does = h .pos .does; sum = h .pos .total; least = least (h .pos); bound = h .pos .bound });
+      there = λ k d e. ⊎-elim
+          (λ v. let i : h .pos .k ≡ k = sums-inj (h .pos .does) d (omega (arith, v .1)) in ap (λ s. holding s q) (v .2 ∙ ap (λ j. boundary (trace p j) j t) i))
+          (λ v. absurd (omega (arith, v .0, h .pos .total, least (h .pos) k (omega arith))))
+          (view (h .pos));
+      only = λ e. ⊎-elim (λ v. (h .pos .k, h .pos .does, sym (v .1))) (λ v. absurd (away-step1 (reach m₀ t .control .phase) (v .1 .off) e)) (view (h .pos));
+    }
+
+-- ---- what an accepted start knows
+
+accepted : (b : Bool) (q : ℕ) {m : ℕ} → pick b (suc q) m ≡ 0 → (b ≡ false) × (m ≡ 0)
+accepted true q e = absurd (omega arith)
+accepted false q e = (refl, e)
+
+both-not : (b : Bool) → not b ≡ false → b ≡ true
+both-not true e = refl
+both-not false e = cc
+
+record Start (n entry flags : ℕ) : Type 0 where
+  length-good : badLength n ≡ false
+  short : n ≤ 65536
+  aligned : entry % 4 ≡ 0
+  inside : entry < n
+  small : flags < 16
+
+start-good : (n entry flags : ℕ) → startAnswer n entry flags ≡ 0 → Start n entry flags
+unfolding startAnswer
+start-good n entry flags e =
+    let a = accepted (badLength n) 0 e in
+    let b = accepted (badEntry entry n) 1 (a .1) in
+    let c = accepted (badFlags flags) 3 (b .1) in
+    let l = or-false (not (eqb (n % 4) 0) || ltb n 16) (a .0) in
+    let i = or-false (not (eqb (entry % 4) 0)) (b .0) in
+    record {
+      length-good = a .0;
+      short = ltb-false 65536 n (l .1);
+      aligned = eqb-true (entry % 4) 0 (both-not (eqb (entry % 4) 0) (i .0));
+      inside = ltb-true entry n (both-not (ltb entry n) (i .1));
+      small = let h : flags ≤ 15 = ltb-false 15 flags (c .0) in omega arith;
+    }
+
+module _ (g : List ℕ) (flags entry : ℕ) (mem : List ℕ) (a : Start (length mem) entry flags) where
+  begins : (r : plainFresh g flags entry mem .plain .a < 2 ^ 26) (s : plainFresh g flags entry mem .plain .length ≤ 65536)
+      → Here (plainFresh g flags entry mem) (fresh g flags entry mem) r s 0 0
+  unfolding reach trace sums durations fresh plainFresh
+  begins r s = record {
+    pos = record {
+      k = 0;
+      n = 2;
+      u = 0;
+      does = λ j h. absurd (omega arith);
+      total = refl;
+      past = λ j h. absurd (omega arith);
+      flying = started g flags entry mem;
+      counted = refl;
+      bound = omega arith;
+      sound = record { short = s; range = r; aligned = a .aligned; flags = a .small; counts = omega arith; fine = refl };
+    };
+    small = omega arith;
+    stop = inl refl;
+  }
+
+-- Term 3
+pub term3 : Term3
+unfolding fresh plainFresh reach
+term3 g flags entry mem e cs =
+    let a = start-good (length mem) entry flags e in
+    let r : plainFresh g flags entry mem .plain .a < 2 ^ 26 = omega (arith, a .inside, a .short) in
+    let s : plainFresh g flags entry mem .plain .length ≤ 65536 = a .short in
+    let (t, q, answers, is, h) =
+    all (plainFresh g flags entry mem) (fresh g flags entry mem) r s (length mem) (a .length-good) refl refl refl cs 0 0 (begins g flags entry mem a r s) in
+    (t, q, answers, rw is (leaves (plainFresh g flags entry mem) (fresh g flags entry mem) r s (length mem) (a .length-good) refl refl refl h))

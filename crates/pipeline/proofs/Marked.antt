@@ -1,0 +1,29 @@
+-- The paper's report, by computation.
+-- Assumes nothing.
+use mathlib.Core.Path.{refl}
+use Rattle.bits.specs.Bits as bits
+use Rattle.word.specs.Reader as reader
+use Rattle.condition.specs.Condition as condition
+use Rattle.datapath.specs.Shifter as shifter
+use Rattle.datapath.specs.Alu as alu
+use Rattle.datapath.specs.Counter as counter
+use Rattle.memory.specs.Memory as memory
+use Rattle.registers.specs.Registers as registers
+use Rattle.processing.specs.Processing as processing
+use Rattle.transfer.specs.Single as single
+use Rattle.transfer.specs.Block as block
+use Rattle.semantics.specs.Branch as branch
+use Rattle.semantics.specs.Effect as effect
+use Rattle.semantics.specs.Stops as stops
+use Rattle.semantics.specs.Perform as perform
+use Rattle.plain.specs.Numbers as plain
+use Rattle.pipeline.specs.Machine.{behind}
+use Rattle.pipeline.specs.Steps.{first, later}
+use Rattle.pipeline.specs.Cycle.{ownOf, cycle}
+use Rattle.pipeline.specs.Numbers.{stopFound, bad, refusal}
+use Rattle.pipeline.specs.Run.{start, runFrom, run}
+use Rattle.pipeline.specs.Marked.{Report}
+
+pub report : Report
+unfolding bits.field bits.bit reader.readOf condition.passes shifter.constant shifter.ror shifter.rotated alu.sum alu.difference alu.operate alu.flagsOf counter.ahead counter.counter counter.r15Word memory.holdsWord memory.readWord memory.wordAt registers.register registers.put registers.arrives processing.operandOf processing.computedOf processing.flagsAfter processing.stored processing.processed branch.branched effect.effectOf stops.ruleBroken stops.movedBy stops.storedBy stops.movedStop stops.stopOf perform.stopFor plain.startAnswer behind first later ownOf cycle stopFound bad refusal start runFrom run
+report = record { answer = refl; pc = refl; cycles = refl; retired = refl; flags = refl; registers = refl }

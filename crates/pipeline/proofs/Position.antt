@@ -1,0 +1,121 @@
+-- Where the core stands after t cycles: n cycles before the boundary after k instructions.
+-- Assumes nothing.
+use Prim.Native.Nat.{ℕ, zero, suc, pred, _+_, _^_, _≤_, _<_}
+use mathlib.Core.Path.{_≡_, refl, sym, ap, _∙_}
+use mathlib.Core.List.{List}
+use mathlib.Core.Bool.{Bool, true, false}
+use mathlib.Core.Logic.{⊎-elim}
+use native.Mathlib.Omega.{arith}
+use native.Mathlib.Nat.{eq-or-lt-of-le, le-of-suc-le-suc}
+use lib.ListN.{length}
+use Rattle.datapath.specs.Counter.{ahead}
+use Rattle.semantics.specs.Perform.{stopFor}
+use Rattle.plain.specs.Machine as plain
+use Rattle.plain.specs.Trace.{trace, stopMet, duration, durations}
+use Rattle.pipeline.specs.declared.Phase.{Phase}
+use Rattle.pipeline.specs.declared.Phase.the-variants.{Step1, Refill1, Refill2, Later}
+use Rattle.pipeline.specs.Machine.{Machine}
+use Rattle.pipeline.specs.Cycle.{cycle, ownOf}
+use Rattle.pipeline.specs.Numbers.{atStep1, stopFound}
+use Rattle.pipeline.specs.Term3.{fresh, plainFresh, sums, Does, reach, boundary, lead}
+use Rattle.pipeline.proofs.Flight.{away, Flight, climb, turn44}
+use Rattle.pipeline.proofs.Instruction.{behind-ahead}
+use Rattle.pipeline.proofs.PlainSteps.{stop-is, flight, duration-flight, flight-short, instruction, step-range, step-length}
+use Rattle.pipeline.proofs.Sound.{Sound, cycle-sound}
+
+pub climb-add : (n t : ℕ) → climb n t ≡ t + n
+climb-add zero t = omega arith
+climb-add (suc n) t = omega (arith, climb-add n (suc t))
+
+-- the start's two refills
+pub started : (g : List ℕ) (flags entry : ℕ) (mem : List ℕ)
+    → Flight 0 0 2 (fresh g flags entry mem) (boundary (plainFresh g flags entry mem) 0 2)
+unfolding cycle ownOf boundary fresh plainFresh lead
+started g flags entry mem =
+    (record { off = refl; retired = refl; beyond = refl }, (record { off = refl; retired = refl; beyond = refl }, rw (turn44 entry)))
+
+pub away-quiet : (ph : Phase) (q : ℕ) → away ph ≡ true → atStep1 ph q ≡ 0
+away-quiet Step1 q e = cc
+away-quiet Refill1 q e = refl
+away-quiet Refill2 q e = refl
+away-quiet (Later k) q e = refl
+
+-- on a boundary the core finds the stop that the plain machine meets
+pub boundary-stop : (p : plain.Machine) (k t : ℕ) → p .plain .a < 2 ^ 26 → stopFound (boundary p k t) ≡ stopMet p
+unfolding stopFound boundary
+boundary-stop p k t h = rw (behind-ahead (p .plain .a) h) (sym (stop-is p))
+
+pub sums-step : (p : plain.Machine) (k : ℕ) → sums p (suc k) ≡ sums p k + duration (trace p k)
+unfolding sums durations
+sums-step p k = omega arith
+
+module _ (p : plain.Machine) (m₀ : Machine) (range : p .plain .a < 2 ^ 26) (short : p .plain .length ≤ 65536) where
+  pub ranged : (k : ℕ) → trace p k .plain .a < 2 ^ 26
+  unfolding trace
+  ranged zero = range
+  ranged (suc k) = step-range (trace p k) (ranged k)
+
+  shorted : (k : ℕ) → trace p k .plain .length ≤ 65536
+  unfolding trace
+  shorted zero = short
+  shorted (suc k) = omega (arith, step-length (trace p k), shorted k)
+
+  -- u is what the cycles are beyond the durations of the instructions retired
+  pub record Pos (t : ℕ) : Type 0 where
+    pub k : ℕ
+    pub n : ℕ
+    pub u : ℕ
+    pub does : Does p k
+    pub total : t + n ≡ sums p k
+    pub past : (j : ℕ) → k ≡ suc j → sums p j < t
+    pub flying : Flight (pred k) u n (reach m₀ t) (boundary (trace p k) k (sums p k))
+    pub counted : t ≡ durations p (pred k) + u
+    pub bound : n ≤ 19
+    pub sound : Sound (reach m₀ t)
+
+  does-more : {k : ℕ} → Does p k → stopMet (trace p k) ≡ 0 → Does p (suc k)
+  does-more d e j h = ⊎-elim (λ i. rw i e) (λ l. d j l) (eq-or-lt-of-le (le-of-suc-le-suc h))
+
+  -- at the boundary after k instructions, with no stop there
+  leave : {t : ℕ} (k : ℕ) → Sound (reach m₀ t) → Does p k → t ≡ sums p k → reach m₀ t ≡ boundary (trace p k) k (sums p k)
+      → stopFound (reach m₀ t) ≡ 0 → Pos (suc t)
+  unfolding reach trace
+  leave {t} k sd d e₁ f e =
+      let quiet : stopMet (trace p k) ≡ 0 = sym (boundary-stop (trace p k) k (sums p k) (ranged k)) ∙ rw f at e in
+      let next : sums p (suc k) ≡ suc (sums p k) + flight (trace p k) = omega (arith, sums-step p k, duration-flight (trace p k) quiet) in
+      let long : sums p (suc k) ≡ climb (flight (trace p k)) (suc (sums p k)) = omega (arith, climb-add (flight (trace p k)) (suc (sums p k))) in
+      record {
+        k = suc k;
+        n = flight (trace p k);
+        u = 3;
+        does = does-more d quiet;
+        total = omega arith;
+        past = λ j h. let i : j ≡ k = omega arith in rw i (omega arith);
+        flying = rw (f, long) (instruction (trace p k) k (sums p k) (ranged k) (shorted k) quiet);
+        counted = e₂;
+        bound = flight-short (trace p k);
+        sound = cycle-sound (reach m₀ t) sd e;
+      }
+    where
+      e₂ : suc t ≡ durations p k + 3
+      e₂ = unfold sums in omega arith
+
+  pub advance : {t : ℕ} → Pos t → stopFound (reach m₀ t) ≡ 0 → Pos (suc t)
+  unfolding reach
+  advance {t} c e = go (c .n) (c .u) (c .total) (c .flying) (c .counted) (c .bound)
+    where
+      go : (n u : ℕ) → t + n ≡ sums p (c .k) → Flight (pred (c .k)) u n (reach m₀ t) (boundary (trace p (c .k)) (c .k) (sums p (c .k)))
+          → t ≡ durations p (pred (c .k)) + u → n ≤ 19 → Pos (suc t)
+      go zero u e₁ f i b = leave (c .k) (c .sound) (c .does) (omega arith) f e
+      go (suc n) u e₁ f i b = record {
+        k = c .k;
+        n = n;
+        u = suc u;
+        does = c .does;
+        total = omega arith;
+        past = λ j h. omega (arith, c .past j h);
+        flying = f .1;
+        counted = omega arith;
+        bound = omega arith;
+        sound = cycle-sound (reach m₀ t) (c .sound) e;
+      }

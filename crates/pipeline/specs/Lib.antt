@@ -1,0 +1,9 @@
+pub mod Machine
+pub mod Steps
+pub mod Cycle
+pub mod Numbers
+pub mod Run
+pub mod Term3
+pub mod View
+pub mod Whole
+pub mod Marked

@@ -1,0 +1,166 @@
+-- Term 3: what every list of run calls from a fresh core answers and leaves, in terms of the plain machine.
+use Prim.Native.Nat.{ℕ, zero, suc, _+_, _-_, _≤_, _<_}
+use mathlib.Core.Path.{_≡_}
+use mathlib.Core.List.{List, [], _∷_}
+use mathlib.Core.Logic.{_≢_, _⊎_}
+use lib.ListN.{length}
+use Rattle.word.specs.Reader.{readOf}
+use Rattle.datapath.specs.Counter.{ahead}
+use Rattle.memory.specs.Memory.{wordAt}
+use Rattle.memory.specs.declared.Fetched.{Fetched}
+use Rattle.memory.specs.declared.Fetched.the-variants.{Word, Blank}
+use Rattle.semantics.specs.Effect.{ownSteps}
+use Rattle.plain.specs.Machine as plain
+use Rattle.plain.specs.Numbers.{startAnswer}
+use Rattle.plain.specs.Run.{begun}
+use Rattle.plain.specs.Trace.{trace, stopMet, durations}
+use Rattle.pipeline.specs.declared.Phase.{Phase}
+use Rattle.pipeline.specs.declared.Phase.the-variants.{Step1, Refill1, Refill2, Later}
+use Rattle.pipeline.specs.Machine.{Machine, machine, pipe, control}
+use Rattle.pipeline.specs.Steps.{idle}
+use Rattle.pipeline.specs.Numbers.{mostCycles}
+use Rattle.pipeline.specs.Cycle.{cycle}
+use Rattle.pipeline.specs.Run.{freshControl, holding, Ran, run}
+
+-- ---- the two machines from one start
+
+unfoldable pub fresh : List ℕ → ℕ → ℕ → List ℕ → Machine
+fresh g flags entry mem = machine g (freshControl flags entry (length mem)) mem
+
+unfoldable pub plainFresh : List ℕ → ℕ → ℕ → List ℕ → plain.Machine
+plainFresh g flags entry mem = plain.machine (begun g flags entry mem) mem
+
+-- 2 plus the durations of the plain machine's first k instructions
+unfoldable pub sums : plain.Machine → ℕ → ℕ
+sums p k = 2 + durations p k
+
+-- the plain machine does k instructions before its stop
+abbrev pub Does : plain.Machine → ℕ → Type 0
+Does p k = (j : ℕ) → j < k → stopMet (trace p j) ≡ 0
+
+-- it stops with q, and its stop total is t
+pub record Stops (p : plain.Machine) (t q : ℕ) : Type 0 where
+  pub k : ℕ
+  pub does : Does p k
+  pub total : sums p k ≡ t
+  pub stop : stopMet (trace p k) ≡ q
+  pub real : q ≢ 0
+
+-- ---- a list of run calls
+
+-- a run call: how many bytes are lent, and the budget
+pub record Call : Type 0 where
+  pub lent : ℕ
+  pub budget : ℕ
+
+abbrev pub call : Call → Machine → Ran
+call c m = run (c .lent) (c .budget) m
+
+pub record Reply : Type 0 where
+  pub answer : ℕ
+  pub used : ℕ
+
+abbrev pub reply : ℕ → ℕ → Reply
+reply answer used = record { answer = answer; used = used }
+
+-- what the calls of a list leave, one after the other, and what they answer
+unfoldable pub calls : List Call → Machine → Machine
+calls [] m = m
+calls (c ∷ cs) m = calls cs (call c m .machine)
+
+unfoldable pub replies : List Call → Machine → List Reply
+replies [] m = []
+replies (c ∷ cs) m = reply (call c m .answer) (call c m .used) ∷ replies cs (call c m .machine)
+
+-- ---- what the calls answer
+
+pub record Accepted (n t : ℕ) (c : Call) : Type 0 where
+  pub lent : c .lent ≡ n
+  pub small : c .budget ≤ 1000000
+  pub near : t + c .budget ≤ mostCycles
+
+-- at total t with stop q answered (0: none), a call answers this, and total and stop are then those at the end
+pub data Answers (p : plain.Machine) (n t q : ℕ) (c : Call) : Reply → ℕ → ℕ → Type 0 where
+  -- the lent length isn't the start's
+  other-length : c .lent ≢ n → Answers p n t q c (reply 12 0) t q
+  -- else the budget is above 1,000,000
+  too-many : c .lent ≡ n → 1000000 < c .budget → Answers p n t q c (reply 3 0) t q
+  -- else total plus budget is above 2^40
+  too-far : c .lent ≡ n → c .budget ≤ 1000000 → mostCycles < t + c .budget → Answers p n t q c (reply 13 0) t q
+  -- an accepted run repeats a stop answered earlier, with 0 cycles
+  repeats : Accepted n t c → q ≢ 0 → Answers p n t q c (reply q 0) t q
+  -- else, if the stop total is below total plus budget, it answers the plain machine's stop and uses the difference
+  stops : Accepted n t c → q ≡ 0 → {t′ q′ : ℕ} → Stops p t′ q′ → t′ < t + c .budget → Answers p n t q c (reply q′ (t′ - t)) t′ q′
+  -- else it answers 0 and uses its budget
+  spends : Accepted n t c → q ≡ 0 → {t′ : ℕ} → t′ ≡ t + c .budget → ((t″ q″ : ℕ) → Stops p t″ q″ → t′ ≤ t″)
+      → Answers p n t q c (reply 0 (c .budget)) t′ 0
+
+pub data AllAnswer (p : plain.Machine) (n : ℕ) : ℕ → ℕ → List Call → List Reply → ℕ → ℕ → Type 0 where
+  none : {t q : ℕ} → AllAnswer p n t q [] [] t q
+  more : {t q t₁ q₁ t₂ q₂ : ℕ} {c : Call} {r : Reply} {cs : List Call} {rs : List Reply}
+      → Answers p n t q c r t₁ q₁ → AllAnswer p n t₁ q₁ cs rs t₂ q₂ → AllAnswer p n t q (c ∷ cs) (r ∷ rs) t₂ q₂
+
+-- ---- what the calls leave
+
+-- the core after t cycles
+unfoldable pub reach : Machine → ℕ → Machine
+reach m zero = m
+reach m (suc t) = cycle (reach m t)
+
+-- the core that stands for a plain machine between instructions, with k retired in t cycles: about to do step 1 (a boundary, the paper's term)
+unfoldable pub boundary : plain.Machine → ℕ → ℕ → Machine
+boundary p k t =
+    let a = p .plain .a in
+    let mem = p .memory in
+    machine (p .plain .registers)
+    (control (p .plain .flags) (pipe (ahead a 8) (wordAt mem (ahead a 4)) (wordAt mem a) (wordAt mem a)) Step1 idle t k 0 (p .plain .length))
+    mem
+
+-- the greatest k for which the plain machine does k instructions before its stop and their durations plus 2 don't pass t, or 0
+pub record Greatest (p : plain.Machine) (t k : ℕ) : Type 0 where
+  pub fits : (Does p k × (sums p k ≤ t)) ⊎ (k ≡ 0)
+  pub most : (j : ℕ) → Does p j → sums p j ≤ t → j ≤ k
+
+-- the least sum not below t is t + d
+pub record Distance (p : plain.Machine) (t d : ℕ) : Type 0 where
+  pub k : ℕ
+  pub does : Does p k
+  pub sum : t + d ≡ sums p k
+  pub least : (j : ℕ) → t ≤ sums p j → sums p k ≤ sums p j
+  pub bound : d ≤ 19
+
+-- the own steps of the word in IX, in the core's refills
+abbrev pub stepsOf : Fetched → List ℕ → ℕ
+stepsOf Blank g = 0
+stepsOf (Word w) g = 2 + ownSteps (readOf w) g
+
+-- the cycles beyond the durations of the instructions done: the start's 2, and the steps under way
+abbrev pub leadIn : Phase → Fetched → List ℕ → ℕ
+leadIn Step1 ix g = 2
+leadIn Refill1 ix g = stepsOf ix g
+leadIn Refill2 ix g = suc (stepsOf ix g)
+leadIn (Later k) ix g = 3 + k
+
+unfoldable pub lead : Machine → ℕ
+lead m = leadIn (m .control .phase) (m .control .ix) (m .registers)
+
+-- what the list leaves, at total t with stop q answered
+pub record Leaves (p : plain.Machine) (m₀ m : Machine) (t q : ℕ) : Type 0 where
+  -- what t cycles leave, holding the stop
+  pub is : m ≡ holding (reach m₀ t) q
+  pub cycles : m .control .cycles ≡ t
+  pub stop : m .control .stop ≡ q
+  pub retired : Greatest p t (m .control .retired)
+  -- the cycles counted are the durations of the instructions done and the steps under way
+  pub counted : t ≡ durations p (m .control .retired) + lead m
+  pub distance : (d : ℕ) × Distance p t d
+  -- a boundary exactly where t is a sum: there registers, flags, PC less 8 and memory are the plain machine's
+  pub there : (k : ℕ) → Does p k → sums p k ≡ t → m ≡ holding (boundary (trace p k) k t) q
+  pub only : m .control .phase ≡ Step1 → (k : ℕ) × Does p k × (sums p k ≡ t)
+
+abbrev pub Term3 : Type 0
+Term3 =
+    (g : List ℕ) (flags entry : ℕ) (mem : List ℕ) → startAnswer (length mem) entry flags ≡ 0 → (cs : List Call)
+    → (t : ℕ) × (q : ℕ)
+    × AllAnswer (plainFresh g flags entry mem) (length mem) 0 0 cs (replies cs (fresh g flags entry mem)) t q
+    × Leaves (plainFresh g flags entry mem) (fresh g flags entry mem) (calls cs (fresh g flags entry mem)) t q

@@ -1,0 +1,101 @@
+// The pipelined core: its record, a cycle, a start and a run.
+mod cycle;
+mod numbers;
+mod quick;
+mod run;
+mod steps;
+
+use memory::Fetched;
+
+// What the next cycle does. Steps 2 and later are counted from 0.
+pub enum Phase {
+    Step1,
+    Refill1,
+    Refill2,
+    Later(u32),
+}
+
+// How a cycle ends: the instruction goes on in a phase; it is done, and retired rises by so much; or it stored the counter.
+pub enum After {
+    More(Phase),
+    Done(u32),
+    Jump(u32),
+}
+
+// All of the core but its registers. IX holds the word of the instruction under way.
+pub struct Control {
+    pub pc: u32,
+    pub flags: u32,
+    pub ir1: Fetched,
+    pub ir2: Fetched,
+    pub ix: Fetched,
+    pub phase: Phase,
+    pub address: u32,
+    pub datum: u32,
+    pub base: u32,
+    pub cycles: u64,
+    pub retired: u64,
+    pub stop: u32,
+    pub length: u32,
+}
+
+pub struct Core {
+    pub registers: [u32; 15],
+    pub control: Control,
+}
+
+pub struct CoreStarted {
+    pub answer: u32,
+    pub core: Core,
+}
+
+// What a run hands back: its answer, the cycles it used, and the core.
+pub struct CoreRan {
+    pub answer: u32,
+    pub used: u64,
+    pub core: Core,
+}
+
+// The same where the registers are lent.
+struct Went {
+    answer: u32,
+    used: u64,
+    control: Control,
+}
+
+// The latches as a step finds them.
+pub struct Latched {
+    pub address: u32,
+    pub datum: u32,
+    pub base: u32,
+}
+
+// What a step leaves beside the registers and the memory, which are lent.
+pub struct Step {
+    pub flags: u32,
+    pub address: u32,
+    pub datum: u32,
+    pub base: u32,
+    pub after: After,
+}
+
+// The counter and the words fetched ahead.
+pub struct Piped {
+    pub pc: u32,
+    pub ir1: Fetched,
+    pub ir2: Fetched,
+}
+
+// A core between two instructions: where the next one is, the flags and the counts.
+pub struct Between {
+    pub a: u32,
+    pub flags: u32,
+    pub cycles: u64,
+    pub retired: u64,
+}
+
+// Where whole instructions came to, and the cycles they took.
+pub struct Came {
+    pub at: Between,
+    pub used: u64,
+}

@@ -1,0 +1,125 @@
+// Start and run of the core.
+ghost use mathlib.Core.Path.{_≡_};
+ghost use Prim.Native.Nat.{_+_, _^_, _≤_};
+ghost use lib.ListN.{length};
+ghost use Rattle.pipeline.specs.Machine.{machine};
+ghost use Rattle.pipeline.specs.Run.{freshControl, zeroed, start, ran, runFrom, run};
+use crate::Control;
+use crate::Core;
+use crate::CoreRan;
+use crate::CoreStarted;
+use crate::Phase;
+use crate::Went;
+use crate::cycle::cycle;
+use crate::numbers::refusal;
+use crate::numbers::stop_found;
+use memory::Fetched;
+use plain::numbers::start_answer;
+
+// What an accepted start hands back but the registers.
+fn fresh(flags: u32, entry: u32, length: u32) -> Control
+    ensures { λ r. ⌜ r ≡ freshControl flags entry length ⌝ }
+{
+    Control {
+        pc: entry,
+        flags,
+        ir1: Fetched::Blank,
+        ir2: Fetched::Blank,
+        ix: Fetched::Blank,
+        phase: Phase::Refill1,
+        address: 0,
+        datum: 0,
+        base: 0,
+        cycles: 0,
+        retired: 0,
+        stop: 0,
+        length,
+    }
+}
+
+// What a refused start hands back.
+fn zeroed() -> Core
+    ensures { λ r. ⌜ r ≡ zeroed ⌝ }
+{
+    let control = Control {
+        phase: Phase::Step1,
+        ..fresh(0, 0, 0)
+    };
+    Core {
+        registers: [0; 15],
+        control,
+    }
+}
+
+// Cycles until the budget is spent or a stop is found. The registers are lent, so that no cycle copies them.
+fn run_from(c: Control, registers: &mut [u32; 15], memory: &mut [u8], budget: u64) -> Went
+    requires { ⌜ (c .cycles + budget ≤ 2 ^ 40) × (c .retired ≤ c .cycles) ⌝ }
+    ensures { λ r. ⌜ ran (r .answer) (r .used) (machine (now (registers .exit)) (r .control) (now (memory .exit))) ≡ runFrom budget (machine (now (registers .entry)) c (now (memory .entry))) ⌝ }
+{
+    let mut at = c;
+    let mut used: u64 = 0;
+    while used < budget {
+        let stop = stop_found(at, registers);
+        if stop != 0 {
+            let control = Control { stop, ..at };
+            return Went {
+                answer: stop,
+                used,
+                control,
+            };
+        }
+        at = cycle(at, registers, memory);
+        used += 1;
+    }
+    Went {
+        answer: 0,
+        used,
+        control: at,
+    }
+}
+
+impl Core {
+    pub fn start(registers: [u32; 15], flags: u32, entry: u32, memory: &[u8]) -> CoreStarted
+        ensures { λ r. ⌜ record { answer = r .answer; core = r .core } ≡ start registers flags entry (now (memory .entry)) ⌝ }
+    {
+        let answer = start_answer(memory.len(), entry, flags);
+        if answer != 0 {
+            let core = zeroed();
+            return CoreStarted { answer, core };
+        }
+        let control = fresh(flags, entry, memory.len() as u32);
+        CoreStarted {
+            answer: 0,
+            core: Core { registers, control },
+        }
+    }
+
+    pub fn run(self, memory: &mut [u8], budget: u64) -> CoreRan
+        ensures { λ r. ⌜ ran (r .answer) (r .used) (machine (r .core .registers) (r .core .control) (now (memory .exit))) ≡ run (length (now (memory .entry))) budget (machine (self .registers) (self .control) (now (memory .entry))) ⌝ }
+    {
+        let mut registers = self.registers;
+        let c = self.control;
+        let answer = refusal(memory.len(), budget, c, &registers);
+        if answer != 0 {
+            return CoreRan {
+                answer,
+                used: 0,
+                core: self,
+            };
+        }
+        if c.stop != 0 {
+            return CoreRan {
+                answer: c.stop,
+                used: 0,
+                core: self,
+            };
+        }
+        let went = run_from(c, &mut registers, memory, budget);
+        let control = went.control;
+        CoreRan {
+            answer: went.answer,
+            used: went.used,
+            core: Core { registers, control },
+        }
+    }
+}

@@ -1,0 +1,4 @@
+pub mod Accepted
+pub mod Steps
+pub mod Loop
+pub mod Entry

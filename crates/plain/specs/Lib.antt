@@ -1,0 +1,5 @@
+pub mod Machine
+pub mod Lent
+pub mod Numbers
+pub mod Run
+pub mod Trace

@@ -1,0 +1,44 @@
+-- Numbers 1 to 4, 11 and 12, as far as the plain machine has them (paper 01, the two lists of numbers and "Plain machine").
+use Prim.Native.Nat.{ℕ, _%_, _^_}
+use mathlib.Core.Bool.{Bool, not, _||_, _&&_}
+use mathlib.Core.List.{List}
+use lib.Dec.{ltb, leb, eqb}
+use lib.ListN.{length}
+use Rattle.bits.specs.Choice.{pick}
+use Rattle.plain.specs.declared.Plain.{Plain}
+
+-- 1: a length that is not a multiple of 4, or outside 16..65,536
+abbrev pub badLength : ℕ → Bool
+badLength n = not (eqb (n % 4) 0) || ltb n 16 || ltb 65536 n
+
+-- 2: an entry that is not a multiple of 4 or not below the length
+abbrev pub badEntry : ℕ → ℕ → Bool
+badEntry entry n = not (eqb (entry % 4) 0) || not (ltb entry n)
+
+-- 4: flags above 15
+abbrev pub badFlags : ℕ → Bool
+badFlags flags = ltb 15 flags
+
+-- the number that a start of either engine answers, 0 where it is accepted
+unfoldable pub startAnswer : ℕ → ℕ → ℕ → ℕ
+startAnswer n entry flags = pick (badLength n) 1 (pick (badEntry entry n) 2 (pick (badFlags flags) 4 0))
+
+-- a stop that a record can hold
+abbrev pub isStop : ℕ → Bool
+isStop stop = eqb stop 0 || (leb 21 stop && leb stop 25)
+
+-- an address that a counter can hold
+abbrev pub isCounter : ℕ → Bool
+isCounter a = eqb (a % 4) 0 && ltb a (2 ^ 26)
+
+-- 11: a bad record
+unfoldable pub bad : Plain → Bool
+bad p = badLength (p .length) || not (isCounter (p .a)) || badFlags (p .flags) || not (isStop (p .stop))
+
+-- 3: a budget above 1,000,000
+abbrev pub badBudget : ℕ → Bool
+badBudget n = ltb 1000000 n
+
+-- what a run of this record refuses with, or 0: 12, 11, 3
+unfoldable pub refusal : Plain → ℕ → ℕ → ℕ
+refusal p lent budget = pick (not (eqb lent (p .length))) 12 (pick (bad p) 11 (pick (badBudget budget) 3 0))

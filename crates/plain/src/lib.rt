@@ -1,0 +1,135 @@
+// The plain machine (the paper's term): one instruction after the other, with no pipeline.
+ghost use mathlib.Core.Path.{_≡_};
+ghost use Rattle.plain.specs.Machine.{machine, step};
+ghost use Rattle.plain.specs.Run.{zeroed, start, ran, run};
+
+pub mod numbers;
+mod run;
+mod step;
+
+use numbers::refusal;
+use numbers::start_answer;
+use run::run_from;
+use step::advance;
+
+pub struct Plain {
+    pub registers: [u32; 15],
+    pub a: u32,
+    pub flags: u32,
+    pub stop: u32,
+    pub length: u32,
+}
+
+pub struct PlainStarted {
+    pub answer: u32,
+    pub plain: Plain,
+}
+
+pub struct PlainRan {
+    pub answer: u32,
+    pub done: u64,
+    pub plain: Plain,
+}
+
+// What changes from step to step beside the registers and the memory.
+struct At {
+    a: u32,
+    flags: u32,
+    stop: u32,
+}
+
+// What a refused start hands back.
+fn zeroed() -> Plain
+    ensures { λ r. ⌜ r ≡ zeroed ⌝ }
+{
+    Plain {
+        registers: [0; 15],
+        a: 0,
+        flags: 0,
+        stop: 0,
+        length: 0,
+    }
+}
+
+impl Plain {
+    // Changes no memory; a refused start hands back a zeroed record.
+    pub fn start(registers: [u32; 15], flags: u32, entry: u32, memory: &[u8]) -> PlainStarted
+        ensures { λ r. ⌜ record { answer = r .answer; plain = r .plain } ≡ start registers flags entry (now (memory .entry)) ⌝ }
+    {
+        let answer = start_answer(memory.len(), entry, flags);
+        if answer != 0 {
+            let plain = zeroed();
+            return PlainStarted { answer, plain };
+        }
+        PlainStarted {
+            answer: 0,
+            plain: Plain {
+                registers,
+                a: entry,
+                flags,
+                stop: 0,
+                length: memory.len() as u32,
+            },
+        }
+    }
+
+    // One instruction, or its stop; a stop held is not looked at.
+    pub fn step(self, memory: &mut [u8]) -> Plain
+        ensures { λ r. ⌜ machine r (now (memory .exit)) ≡ step (machine self (now (memory .entry))) ⌝ }
+    {
+        let mut registers = self.registers;
+        let at = At {
+            a: self.a,
+            flags: self.flags,
+            stop: self.stop,
+        };
+        let next = advance(&mut registers, memory, at, self.length);
+        Plain {
+            registers,
+            a: next.a,
+            flags: next.flags,
+            stop: next.stop,
+            length: self.length,
+        }
+    }
+
+    // Instructions until `count` are done or a stop is met. A refused call changes nothing.
+    pub fn run(self, memory: &mut [u8], count: u64) -> PlainRan
+        ensures { λ r. ⌜ ran (r .answer) (r .done) (machine (r .plain) (now (memory .exit))) ≡ run count (machine self (now (memory .entry))) ⌝ }
+    {
+        let refused = refusal(self, memory.len(), count);
+        if refused != 0 {
+            return PlainRan {
+                answer: refused,
+                done: 0,
+                plain: self,
+            };
+        }
+        if self.stop != 0 {
+            return PlainRan {
+                answer: self.stop,
+                done: 0,
+                plain: self,
+            };
+        }
+        let mut registers = self.registers;
+        let at = At {
+            a: self.a,
+            flags: self.flags,
+            stop: self.stop,
+        };
+        let ended = run_from(&mut registers, memory, at, self.length, count);
+        let last = ended.at;
+        PlainRan {
+            answer: ended.answer,
+            done: ended.done,
+            plain: Plain {
+                registers,
+                a: last.a,
+                flags: last.flags,
+                stop: last.stop,
+                length: self.length,
+            },
+        }
+    }
+}

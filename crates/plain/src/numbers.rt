@@ -1,0 +1,79 @@
+// Numbers 1 to 4, 11 and 12, as far as the plain machine has them; the core's start and run test the same.
+ghost use mathlib.Core.Path.{_≡_};
+ghost use Rattle.plain.specs.Numbers.{badLength, badEntry, badFlags, startAnswer, isStop, isCounter, bad, badBudget, refusal};
+use crate::Plain;
+
+// 1
+pub fn length_is_bad(length: usize) -> bool
+    ensures { λ r. ⌜ r ≡ badLength length ⌝ }
+{
+    (length % 4 != 0) | (length < 16) | (65536 < length)
+}
+
+// 2
+pub fn entry_is_bad(entry: u32, length: usize) -> bool
+    ensures { λ r. ⌜ r ≡ badEntry entry length ⌝ }
+{
+    (entry % 4 != 0) | !((entry as usize) < length)
+}
+
+// 4
+pub fn flags_are_bad(flags: u32) -> bool
+    ensures { λ r. ⌜ r ≡ badFlags flags ⌝ }
+{
+    15 < flags
+}
+
+// What a start answers: 1, 2, 4, or 0 where it is accepted.
+pub fn start_answer(length: usize, entry: u32, flags: u32) -> u32
+    ensures { λ r. ⌜ r ≡ startAnswer length entry flags ⌝ }
+{
+    if length_is_bad(length) {
+        return 1;
+    }
+    if entry_is_bad(entry, length) {
+        return 2;
+    }
+    if flags_are_bad(flags) { 4 } else { 0 }
+}
+
+// A stop that a record can hold.
+pub fn is_stop(stop: u32) -> bool
+    ensures { λ r. ⌜ r ≡ isStop stop ⌝ }
+{
+    (stop == 0) | ((21 <= stop) & (stop <= 25))
+}
+
+// An address that a counter can hold.
+pub fn is_counter(a: u32) -> bool
+    ensures { λ r. ⌜ r ≡ isCounter a ⌝ }
+{
+    (a % 4 == 0) & (a < 0x4000000)
+}
+
+// 3
+pub fn budget_is_bad(budget: u64) -> bool
+    ensures { λ r. ⌜ r ≡ badBudget budget ⌝ }
+{
+    1000000 < budget
+}
+
+// 11
+fn is_bad(p: Plain) -> bool
+    ensures { λ r. ⌜ r ≡ bad p ⌝ }
+{
+    length_is_bad(p.length as usize) | !is_counter(p.a) | flags_are_bad(p.flags) | !is_stop(p.stop)
+}
+
+// What a run refuses with: 12, 11, 3, or 0 where it is accepted.
+pub fn refusal(p: Plain, lent: usize, budget: u64) -> u32
+    ensures { λ r. ⌜ r ≡ refusal p lent budget ⌝ }
+{
+    if lent != p.length as usize {
+        return 12;
+    }
+    if is_bad(p) {
+        return 11;
+    }
+    if budget_is_bad(budget) { 3 } else { 0 }
+}

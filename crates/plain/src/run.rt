@@ -1,0 +1,42 @@
+// The run's loop: registers and memory stay where they are lent.
+ghost use mathlib.Core.Path.{_≡_};
+ghost use Rattle.plain.specs.Lent.{lent};
+ghost use Rattle.plain.specs.Run.{ran, runFrom};
+use crate::At;
+use crate::step::advance;
+
+// The answer, how many instructions it did, and where the machine is then.
+pub struct Ended {
+    pub answer: u32,
+    pub done: u64,
+    pub at: At,
+}
+
+pub fn run_from(
+    registers: &mut [u32; 15],
+    memory: &mut [u8],
+    at: At,
+    length: u32,
+    count: u64,
+) -> Ended
+    ensures { λ r. ⌜ ran (r .answer) (r .done) (lent (now (registers .exit)) (r .at) length (now (memory .exit))) ≡ runFrom count (lent (now (registers .entry)) at length (now (memory .entry))) ⌝ }
+{
+    let mut here = at;
+    let mut done: u64 = 0;
+    while done < count {
+        here = advance(registers, memory, here, length);
+        if here.stop != 0 {
+            return Ended {
+                answer: here.stop,
+                done,
+                at: here,
+            };
+        }
+        done += 1;
+    }
+    Ended {
+        answer: 0,
+        done: count,
+        at: here,
+    }
+}
