@@ -11,4 +11,5 @@ pub mod Sound
 pub mod Position
 pub mod Lists
 pub mod WholeSteps
+pub mod Skips
 pub mod Marked

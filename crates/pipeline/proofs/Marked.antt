@@ -1,4 +1,4 @@
--- The paper's report, by computation.
+-- The marked values: the report by computation, the others from where they are proved.
 -- Assumes nothing.
 use mathlib.Core.Path.{refl}
 use Rattle.bits.specs.Bits as bits
@@ -22,8 +22,13 @@ use Rattle.pipeline.specs.Steps.{first, later}
 use Rattle.pipeline.specs.Cycle.{ownOf, cycle}
 use Rattle.pipeline.specs.Numbers.{stopFound, bad, refusal}
 use Rattle.pipeline.specs.Run.{start, runFrom, run}
-use Rattle.pipeline.specs.Marked.{Report}
+use Rattle.pipeline.specs.Marked.{Report, Marked}
+use Rattle.datapath.proofs.Marked as datapath
+use Rattle.semantics.proofs.Marked as semantics
 
-pub report : Report
+report : Report
 unfolding bits.field bits.bit reader.readOf condition.passes shifter.constant shifter.ror shifter.rotated alu.sum alu.difference alu.operate alu.flagsOf counter.ahead counter.counter counter.r15Word memory.holdsWord memory.readWord memory.wordAt registers.register registers.put registers.arrives processing.operandOf processing.computedOf processing.flagsAfter processing.stored processing.processed branch.branched effect.effectOf stops.ruleBroken stops.movedBy stops.storedBy stops.movedStop stops.stopOf perform.stopFor plain.startAnswer behind first later ownOf cycle stopFound bad refusal start runFrom run
 report = record { answer = refl; pc = refl; cycles = refl; retired = refl; flags = refl; registers = refl }
+
+pub marked : Marked
+marked = record { datapath = datapath.marked; instructions = semantics.marked; report = report }

@@ -58,14 +58,14 @@ module _ (lent n : ℕ) (m : Machine) {q : ℕ} (e : q ≡ refusal lent n m) whe
 
 -- ---- the loop
 
-abbrev afterwards : ℕ → Ran → Ran
+abbrev pub afterwards : ℕ → Ran → Ran
 afterwards u r = ran (r .answer) (u + r .used) (r .machine)
 
 -- u cycles on from m₀ it stands at m; both counts have room for the rest
 pub record Left (budget : ℕ) (m₀ : Machine) (u : ℕ) (m : Machine) : Type 0 where
   pub rest : ℕ
   pub sum : u + rest ≡ budget
-  same : runFrom budget m₀ ≡ afterwards u (runFrom rest m)
+  pub same : runFrom budget m₀ ≡ afterwards u (runFrom rest m)
   pub room : m .control .cycles + rest ≤ 2 ^ 40
   pub behind : m .control .retired ≤ m .control .cycles
 

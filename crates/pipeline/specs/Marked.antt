@@ -1,8 +1,10 @@
--- The paper's report, as a run of the definitions; the other marked values stand in datapath and semantics.
+-- The marked values, one theorem: those of the shifter and the ALU, those of instructions, and the report.
 use Prim.Native.Nat.{ℕ}
 use mathlib.Core.Path.{_≡_}
 use mathlib.Core.List.{List, [], _∷_}
 use lib.ListN.{length, replicate}
+use Rattle.datapath.specs.Marked as datapath
+use Rattle.semantics.specs.Marked as semantics
 use Rattle.pipeline.specs.Machine.{machine}
 use Rattle.pipeline.specs.Run.{Ran, start, run}
 
@@ -25,3 +27,8 @@ pub record Report : Type 0 where
   pub retired : reported .machine .control .retired ≡ 11
   pub flags : reported .machine .control .flags ≡ 6
   pub registers : reported .machine .registers ≡ replicate 15 0
+
+pub record Marked : Type 0 where
+  pub datapath : datapath.Marked
+  pub instructions : semantics.Marked
+  pub report : Report

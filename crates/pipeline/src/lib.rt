@@ -99,3 +99,9 @@ pub struct Came {
     pub at: Between,
     pub used: u64,
 }
+
+// A core under way, and the cycles used to come there.
+pub struct Under {
+    pub control: Control,
+    pub used: u64,
+}

@@ -1,12 +1,22 @@
 // Whole instructions from a boundary on, while the longest fits into the budget: what the plain machine's step does, and the core after its duration.
 ghost use mathlib.Core.Path.{_≡_};
-ghost use Prim.Native.Nat.{_+_, _≤_, _<_, _^_};
+ghost use Prim.Native.Nat.{ℕ, _+_, _≤_, _<_, _^_};
 ghost use Rattle.semantics.specs.Effect.{nextAddress};
-ghost use Rattle.pipeline.specs.Whole.{between, GoesOn, Kept, movedOn};
+ghost use mathlib.Core.Bool.{true};
+ghost use mathlib.Core.List.{List};
+ghost use Rattle.pipeline.specs.Machine.{machine};
+ghost use Rattle.pipeline.specs.Whole.{between, GoesOn, Kept, movedOn, isStep1, Onward, Stands};
 use crate::Between;
 use crate::Came;
+use crate::Control;
+use crate::Phase;
+use crate::Under;
+use crate::cycle::cycle;
+use crate::steps::behind;
 use datapath::counter::ahead;
 use datapath::counter::counter;
+use memory::Fetched;
+use memory::fetch;
 use registers::Goes;
 use semantics::Board;
 use semantics::Performed;
@@ -36,7 +46,7 @@ fn moved(at: Between, r: Performed) -> Between
 }
 
 // No instruction takes more than 20 cycles.
-pub fn whole(
+fn whole(
     registers: &mut [u32; 15],
     memory: &mut [u8],
     at: Between,
@@ -58,4 +68,115 @@ pub fn whole(
         used = used + r.cycles as u64;
     }
     Came { at: here, used }
+}
+
+// ---- to a boundary, and on from it
+
+fn is_step1(phase: Phase) -> bool
+    ensures { λ r. ⌜ r ≡ isStep1 phase ⌝ }
+{
+    match phase {
+        Phase::Step1 => true,
+        Phase::Refill1 => false,
+        Phase::Refill2 => false,
+        Phase::Later(_) => false,
+    }
+}
+
+// Cycles until step 1 or until the budget is spent: no stop is found before step 1.
+pub fn settle(c: Control, registers: &mut [u32; 15], memory: &mut [u8], budget: u64) -> Under
+    requires { ⌜ (c .cycles + budget ≤ 2 ^ 40) × (c .retired ≤ c .cycles) ⌝ }
+    ensures { λ r. ⌜ Onward budget (machine (now (registers .entry)) c (now (memory .entry))) (r .used) (machine (now (registers .exit)) (r .control) (now (memory .exit))) ⌝ }
+{
+    let mut at = c;
+    let mut used: u64 = 0;
+    while used < budget {
+        let phase = at.phase;
+        if is_step1(phase) {
+            return Under { control: at, used };
+        }
+        at = cycle(at, registers, memory);
+        used += 1;
+    }
+    Under { control: at, used }
+}
+
+fn same(x: Fetched, y: Fetched) -> bool
+    ensures { λ r. ⌜ (r ≡ true → x ≡ y) ⌝ }
+{
+    match x {
+        Fetched::Word(v) => match y {
+            Fetched::Word(w) => v == w,
+            Fetched::Blank => false,
+        },
+        Fetched::Blank => match y {
+            Fetched::Word(_) => false,
+            Fetched::Blank => true,
+        },
+    }
+}
+
+// The pipe holds what fetches would give now, and nothing is latched.
+fn stands(c: Control, memory: &[u8]) -> bool
+    ensures { λ r. ⌜ (r ≡ true → Stands c (now (memory .entry))) ⌝ }
+{
+    let phase = c.phase;
+    let ir1 = c.ir1;
+    let ir2 = c.ir2;
+    let ix = c.ix;
+    let a = behind(c.pc);
+    let still = (c.stop == 0) & (c.address == 0) & (c.datum == 0) & (c.base == 0);
+    let sized = (c.pc < 67108864) & (c.length <= 65536);
+    let word = fetch(memory, a);
+    let ahead1 = fetch(memory, ahead(a, 4));
+    is_step1(phase) & still & sized & same(ix, word) & same(ir2, word) & same(ir1, ahead1)
+}
+
+// The boundary core.
+fn control_at(at: Between, length: u32, memory: &[u8]) -> Control
+    ensures { λ r. ⌜ ((g : List ℕ) → machine g r (now (memory .entry)) ≡ between g at length (now (memory .entry))) ⌝ }
+{
+    let word = fetch(memory, at.a);
+    let next = fetch(memory, ahead(at.a, 4));
+    Control {
+        pc: ahead(at.a, 8),
+        flags: at.flags,
+        ir1: next,
+        ir2: word,
+        ix: word,
+        phase: Phase::Step1,
+        address: 0,
+        datum: 0,
+        base: 0,
+        cycles: at.cycles,
+        retired: at.retired,
+        stop: 0,
+        length,
+    }
+}
+
+// Whole instructions where the core stands between two and the longest fits.
+pub fn skip(c: Control, registers: &mut [u32; 15], memory: &mut [u8], budget: u64) -> Under
+    requires { ⌜ (c .cycles + budget ≤ 2 ^ 40) × (c .retired ≤ c .cycles) ⌝ }
+    ensures { λ r. ⌜ Onward budget (machine (now (registers .entry)) c (now (memory .entry))) (r .used) (machine (now (registers .exit)) (r .control) (now (memory .exit))) ⌝ }
+{
+    if stands(c, memory) {
+        let at = Between {
+            a: behind(c.pc),
+            flags: c.flags,
+            cycles: c.cycles,
+            retired: c.retired,
+        };
+        let came = whole(registers, memory, at, c.length, budget);
+        let there = came.at;
+        let control = control_at(there, c.length, memory);
+        return Under {
+            control,
+            used: came.used,
+        };
+    }
+    Under {
+        control: c,
+        used: 0,
+    }
 }

@@ -13,6 +13,8 @@ use crate::Went;
 use crate::cycle::cycle;
 use crate::numbers::refusal;
 use crate::numbers::stop_found;
+use crate::quick::settle;
+use crate::quick::skip;
 use memory::Fetched;
 use plain::numbers::start_answer;
 
@@ -78,6 +80,25 @@ fn run_from(c: Control, registers: &mut [u32; 15], memory: &mut [u8], budget: u6
     }
 }
 
+// To a boundary, whole instructions from there while the longest fits, and the rest by cycles.
+fn run_on(c: Control, registers: &mut [u32; 15], memory: &mut [u8], budget: u64) -> Went
+    requires { ⌜ (c .cycles + budget ≤ 2 ^ 40) × (c .retired ≤ c .cycles) ⌝ }
+    ensures { λ r. ⌜ ran (r .answer) (r .used) (machine (now (registers .exit)) (r .control) (now (memory .exit))) ≡ runFrom budget (machine (now (registers .entry)) c (now (memory .entry))) ⌝ }
+{
+    let near = settle(c, registers, memory, budget);
+    let start = near.control;
+    let left = budget - near.used;
+    let far = skip(start, registers, memory, left);
+    let end = far.control;
+    let went = run_from(end, registers, memory, left - far.used);
+    let control = went.control;
+    Went {
+        answer: went.answer,
+        used: near.used + (far.used + went.used),
+        control,
+    }
+}
+
 impl Core {
     pub fn start(registers: [u32; 15], flags: u32, entry: u32, memory: &[u8]) -> CoreStarted
         ensures { λ r. ⌜ record { answer = r .answer; core = r .core } ≡ start registers flags entry (now (memory .entry)) ⌝ }
@@ -114,7 +135,7 @@ impl Core {
                 core: self,
             };
         }
-        let went = run_from(c, &mut registers, memory, budget);
+        let went = run_on(c, &mut registers, memory, budget);
         let control = went.control;
         CoreRan {
             answer: went.answer,

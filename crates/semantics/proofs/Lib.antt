@@ -1,3 +1,4 @@
 pub mod Spans
 pub mod Durations
 pub mod Results
+pub mod Marked

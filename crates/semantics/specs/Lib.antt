@@ -3,3 +3,4 @@ pub mod Effect
 pub mod Stops
 pub mod Perform
 pub mod Executed
+pub mod Marked

@@ -1,0 +1,34 @@
+-- The marked values hold, by computation on the definitions.
+-- Assumes nothing.
+use mathlib.Core.Path.{refl}
+use Rattle.bits.specs.Bits.{field, bit}
+use Rattle.word.specs.Reader.{readOf}
+use Rattle.condition.specs.Condition.{passes}
+use Rattle.datapath.specs.Shifter.{rotated}
+use Rattle.datapath.specs.Counter.{ahead, r15Word}
+use Rattle.memory.specs.Memory.{holdsWord, readWord, writeWord}
+use Rattle.registers.specs.Registers.{register, put, arrives}
+use Rattle.transfer.specs.Single as single
+use Rattle.transfer.specs.Single.{offsetOf, addressOf, loadedValue, storedValue, storedTo}
+use Rattle.transfer.specs.Block.{namedFrom, named, changedBase, lowestAddress, withBase, loads, stores, storesAll}
+use Rattle.semantics.specs.Branch.{branched}
+use Rattle.semantics.specs.Effect.{loadEffect, storeEffect, blockLoadEffect, blockStoreEffect, effectOf, ownSteps}
+use Rattle.semantics.specs.Stops.{ruleBroken, movedBy, storedBy, movedStop, stopOf}
+use Rattle.semantics.specs.Perform.{stopFor, effectFor, stepsFor, performs}
+use Rattle.semantics.specs.Marked.{Marked}
+
+pub marked : Marked
+unfolding field bit readOf passes rotated ahead r15Word holdsWord readWord writeWord register put arrives offsetOf addressOf loadedValue storedValue storedTo single.changedBase single.withBase namedFrom named changedBase lowestAddress withBase loads stores storesAll branched loadEffect storeEffect blockLoadEffect blockStoreEffect effectOf ownSteps ruleBroken movedBy storedBy movedStop stopOf stopFor effectFor stepsFor performs
+marked = record {
+  load-1 = λ f. refl;
+  lowest-base = λ f. refl;
+  later-base = λ f. refl;
+  link = refl;
+  stored = refl;
+  block-stored = refl;
+  store-24 = λ f. refl;
+  store-28 = λ f. refl;
+  store-20 = λ f. refl;
+  store-2C = λ f. refl;
+  cycles = λ f. refl;
+}

@@ -1,0 +1,60 @@
+// Text put into a lent buffer of 512 bytes, piece after piece. Each call takes the place where the text ends and hands
+// back where it ends then; what does not fit is left out, so that callers owe no proof of room.
+ghost use mathlib.Core.Path.{_≡_};
+ghost use Prim.Native.Nat.{_<_, _≤_};
+ghost use Rattle.text.specs.Text.{digit, hexDigits, decimal};
+ghost use Rattle.text.specs.Output.{output, putByte, put};
+
+fn byte(out: &mut [u8; 512], at: usize, b: u8) -> usize
+    ensures { λ r. ⌜ output (now (out .exit)) r ≡ putByte (output (now (out .entry)) at) b ⌝ }
+{
+    if at < 512 {
+        out[at] = b;
+        at + 1
+    } else {
+        at
+    }
+}
+
+// A digit below 16, upper case.
+fn digit(out: &mut [u8; 512], at: usize, d: u8) -> usize
+    requires { ⌜ d < 16 ⌝ }
+    ensures { λ r. ⌜ output (now (out .exit)) r ≡ putByte (output (now (out .entry)) at) (digit d) ⌝ }
+{
+    if d < 10 {
+        byte(out, at, 48 + d)
+    } else {
+        byte(out, at, 55 + d)
+    }
+}
+
+pub fn literal(out: &mut [u8; 512], at: usize, text: &[u8]) -> usize
+    ensures { λ r. ⌜ output (now (out .exit)) r ≡ put (output (now (out .entry)) at) (now (text .entry)) ⌝ }
+{
+    let mut end = at;
+    for i in 0..text.len() {
+        end = byte(out, end, text[i]);
+    }
+    end
+}
+
+pub fn hex(out: &mut [u8; 512], at: usize, n: u32, digits: usize) -> usize
+    requires { ⌜ digits ≤ 8 ⌝ }
+    ensures { λ r. ⌜ output (now (out .exit)) r ≡ put (output (now (out .entry)) at) (hexDigits digits n) ⌝ }
+{
+    if digits == 0 {
+        return at;
+    }
+    let end = hex(out, at, n / 16, digits - 1);
+    digit(out, end, (n % 16) as u8)
+}
+
+pub fn decimal(out: &mut [u8; 512], at: usize, n: u64) -> usize
+    ensures { λ r. ⌜ output (now (out .exit)) r ≡ put (output (now (out .entry)) at) (decimal n) ⌝ }
+{
+    if n < 10 {
+        return digit(out, at, (n % 10) as u8);
+    }
+    let end = decimal(out, at, n / 10);
+    digit(out, end, (n % 10) as u8)
+}
