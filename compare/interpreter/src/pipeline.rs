@@ -1,0 +1,457 @@
+//! The core: a cycle at a time, with fetch registers and latches.
+
+use crate::answers::*;
+use crate::arm::{
+    compute, constant, counter, counter_of, decode, forbidden, passes, r15_word, shift_by_amount,
+    shift_by_register, Block, Instruction, Offset, Operand, Processing, Shifted, Single, C,
+};
+use crate::memory;
+
+/// What the next cycle does.
+#[derive(Clone, Copy, Debug, PartialEq, Eq)]
+pub enum Phase {
+    /// An own step of IX, counted from 1.
+    Step(u32),
+    Refill1,
+    Refill2,
+}
+
+#[derive(Clone, Debug, PartialEq, Eq)]
+pub struct Core {
+    pub r: [u32; 15],
+    pub pc: u32,
+    pub flags: u32,
+    pub ir1: Option<u32>,
+    pub ir2: Option<u32>,
+    pub ix: Option<u32>,
+    pub phase: Phase,
+    /// The next address to be moved.
+    pub address: u32,
+    /// The word on its way between registers and memory.
+    pub data: u32,
+    /// The written-back base, until step 2 writes it.
+    pub base: u32,
+    pub cycles: u64,
+    pub retired: u64,
+    pub stop: u32,
+    pub length: u32,
+}
+
+impl Core {
+    /// What a refused start hands back. Its length makes it a bad record in any phase.
+    pub fn zeroed() -> Core {
+        Core {
+            r: [0; 15],
+            pc: 0,
+            flags: 0,
+            ir1: None,
+            ir2: None,
+            ix: None,
+            phase: Phase::Step(1),
+            address: 0,
+            data: 0,
+            base: 0,
+            cycles: 0,
+            retired: 0,
+            stop: 0,
+            length: 0,
+        }
+    }
+
+    /// The answer and a core about to do the start's refill.
+    pub fn start(r: [u32; 15], flags: u32, entry: u32, memory: &[u8]) -> (u32, Core) {
+        let refusal = start_refusal(memory.len() as u64, entry, flags);
+        if refusal != FINE {
+            return (refusal, Core::zeroed());
+        }
+        let core = Core {
+            r,
+            flags,
+            pc: entry,
+            phase: Phase::Refill1,
+            length: memory.len() as u32,
+            ..Core::zeroed()
+        };
+        (FINE, core)
+    }
+
+    /// The answer, the cycles used and the core afterwards.
+    pub fn run(self, memory: &mut [u8], budget: u64) -> (u32, u64, Core) {
+        let refusal = self.run_refusal(memory, budget);
+        if refusal != FINE {
+            return (refusal, 0, self);
+        }
+        if self.stop != 0 {
+            return (self.stop, 0, self);
+        }
+        let mut core = self;
+        for used in 0..budget {
+            core = core.cycle(memory);
+            if core.stop != 0 {
+                return (core.stop, used, core);
+            }
+        }
+        (FINE, budget, core)
+    }
+
+    fn run_refusal(&self, memory: &[u8], budget: u64) -> u32 {
+        if memory.len() as u64 != u64::from(self.length) {
+            OTHER_MEMORY
+        } else if self.is_bad() {
+            BAD_RECORD
+        } else if budget > MOST_BUDGET {
+            BUDGET
+        } else if self.cycles + budget > MOST_CYCLES {
+            TOO_MANY_CYCLES
+        } else {
+            FINE
+        }
+    }
+
+    /// A record that no run takes, phase by phase.
+    fn is_bad(&self) -> bool {
+        let bad_number = length_is_bad(u64::from(self.length))
+            || self.pc % 4 != 0
+            || self.pc >= COUNTER_LIMIT
+            || self.flags > 15
+            || self.cycles > MOST_CYCLES
+            || self.retired > self.cycles
+            || !stop_is_known(self.stop);
+        let bad_phase = match self.phase {
+            Phase::Step(1) => false,
+            Phase::Refill1 | Phase::Refill2 => self.stop != 0,
+            Phase::Step(step) => self.stop != 0 || !self.can_be_in(step),
+        };
+        bad_number || bad_phase
+    }
+
+    /// Can a step other than 1 be the next one, by IX, the flags and the address latch?
+    fn can_be_in(&self, step: u32) -> bool {
+        let Some(word) = self.ix else {
+            return false;
+        };
+        if !passes(word >> 28, self.flags) {
+            return false;
+        }
+        let instruction = decode(word);
+        if forbidden(&instruction) {
+            return false;
+        }
+        let (steps, words_left) = match instruction {
+            Instruction::Other => return false,
+            Instruction::Branch(_) => (1, 0),
+            Instruction::Processing(it) => match it.operand {
+                Operand::ByRegister { .. } => (2, 0),
+                _ => (1, 0),
+            },
+            Instruction::Single(it) => (if it.load { 3 } else { 2 }, u32::from(step == 2)),
+            Instruction::Block(it) => {
+                let n = it.list.count_ones();
+                (
+                    if it.load { n + 2 } else { n + 1 },
+                    (n + 2).saturating_sub(step),
+                )
+            }
+        };
+        (2..=steps).contains(&step)
+            && (0..words_left).all(|index| self.is_inside(self.address.wrapping_add(4 * index)))
+    }
+
+    fn is_inside(&self, address: u32) -> bool {
+        address < self.length
+    }
+
+    /// Does one cycle, or sets the stop that is found before step 1, which costs no cycle. The
+    /// core is a good one without a stop, and the memory is its own.
+    pub fn cycle(mut self, memory: &mut [u8]) -> Core {
+        if self.phase == Phase::Step(1) {
+            self.stop = self.stop_found();
+            if self.stop != 0 {
+                return self;
+            }
+        }
+        self.cycles += 1;
+        match self.phase {
+            Phase::Refill1 => {
+                self.fetch(memory);
+                self.leave(Phase::Refill2);
+            }
+            Phase::Refill2 => self.refill_2(memory),
+            Phase::Step(1) => self.step_1(memory),
+            Phase::Step(step) => self.later_step(step, memory),
+        }
+        self
+    }
+
+    // The stop before step 1.
+
+    fn stop_found(&self) -> u32 {
+        let Some(word) = self.ix else {
+            return NO_WORD;
+        };
+        if !passes(word >> 28, self.flags) {
+            return FINE;
+        }
+        let instruction = decode(word);
+        if forbidden(&instruction) {
+            return FORBIDDEN;
+        }
+        let (first, words, load) = match instruction {
+            Instruction::Other => return OTHER,
+            Instruction::Processing(_) | Instruction::Branch(_) => return FINE,
+            Instruction::Single(it) => (self.single_addresses(&it).0 & !3, 1, it.load),
+            Instruction::Block(it) => (self.block_addresses(&it).0, it.list.count_ones(), it.load),
+        };
+        let moved = |index: u32| first.wrapping_add(4 * index);
+        if !(0..words).all(|index| self.is_inside(moved(index))) {
+            return OUTSIDE;
+        }
+        // A+8 is PC before step 1.
+        let fetched = [counter(self.pc.wrapping_sub(4)), self.pc];
+        if !load && (0..words).any(|index| fetched.contains(&moved(index))) {
+            return FETCHED;
+        }
+        FINE
+    }
+
+    /// Before step 1: a single's whole address and its changed base.
+    fn single_addresses(&self, it: &Single) -> (u32, u32) {
+        let base = if it.rn == 15 { self.pc } else { self.r[it.rn] };
+        let offset = match it.offset {
+            Offset::Number(number) => number,
+            Offset::Shifted { rm, shift, amount } => {
+                shift_by_amount(shift, amount, self.r[rm], self.carry()).value
+            }
+        };
+        let offset = if it.up { offset } else { offset.wrapping_neg() };
+        let changed = base.wrapping_add(offset);
+        (if it.before { changed } else { base }, changed)
+    }
+
+    /// Before step 1: a block's lowest address and its changed base.
+    fn block_addresses(&self, it: &Block) -> (u32, u32) {
+        let base = self.r[it.rn];
+        let size = 4 * it.list.count_ones();
+        let (lowest, changed) = if it.up {
+            (base, base.wrapping_add(size))
+        } else {
+            (base.wrapping_sub(size), base.wrapping_sub(size))
+        };
+        // One word higher where the base's own word is left out below or taken in above.
+        let lowest = if it.up == it.before {
+            lowest.wrapping_add(4)
+        } else {
+            lowest
+        };
+        (lowest & !3, changed)
+    }
+
+    // Parts of a cycle.
+
+    fn carry(&self) -> bool {
+        self.flags & C != 0
+    }
+
+    /// IR2 becomes IR1, IR1 the word at PC, PC+4.
+    fn fetch(&mut self, memory: &[u8]) {
+        self.ir2 = self.ir1;
+        self.ir1 = memory::fetch(memory, self.pc);
+        self.pc = counter(self.pc.wrapping_add(4));
+    }
+
+    /// Goes on to a phase; latches that it needs are filled afterwards.
+    fn leave(&mut self, next: Phase) {
+        self.phase = next;
+        self.address = 0;
+        self.data = 0;
+        self.base = 0;
+    }
+
+    /// The last cycle of an instruction or of a start.
+    fn boundary(&mut self, next_word: Option<u32>, retires: bool) {
+        self.leave(Phase::Step(1));
+        self.ix = next_word;
+        self.retired += u64::from(retires);
+    }
+
+    /// A stored counter; IX keeps its word through the refills.
+    fn store_counter(&mut self, target: u32) {
+        self.pc = target;
+        self.leave(Phase::Refill1);
+    }
+
+    fn refill_2(&mut self, memory: &[u8]) {
+        let old_ir1 = self.ir1;
+        self.fetch(memory);
+        let is_the_starts = self.ix.is_none();
+        self.boundary(old_ir1, !is_the_starts);
+    }
+
+    /// A register, R15 being the flags with PC: A+8 before the fetch of step 1, A+12 after it.
+    fn read_with_flags(&self, name: usize) -> u32 {
+        if name == 15 {
+            r15_word(self.flags, self.pc)
+        } else {
+            self.r[name]
+        }
+    }
+
+    fn ix_word(&self) -> u32 {
+        self.ix.expect("IX holds a word in its own steps")
+    }
+
+    // Step 1.
+
+    fn step_1(&mut self, memory: &[u8]) {
+        let word = self.ix_word();
+        let before = self.clone();
+        self.fetch(memory);
+        if !passes(word >> 28, self.flags) {
+            return self.boundary(before.ir1, true);
+        }
+        match decode(word) {
+            Instruction::Processing(it) => match it.operand {
+                Operand::ByRegister { .. } => self.leave(Phase::Step(2)),
+                Operand::ByAmount { rm, shift, amount } => {
+                    let value = before.read_with_flags(rm);
+                    let operand = shift_by_amount(shift, amount, value, self.carry());
+                    self.operate(&it, operand, before.pc, before.ir1);
+                }
+                Operand::Constant { rotation, value } => {
+                    let operand = constant(rotation, value, self.carry());
+                    self.operate(&it, operand, before.pc, before.ir1);
+                }
+            },
+            Instruction::Single(it) => {
+                let (address, changed) = before.single_addresses(&it);
+                self.leave(Phase::Step(2));
+                self.address = address;
+                self.data = if it.load {
+                    0
+                } else {
+                    self.read_with_flags(it.rd)
+                };
+                self.base = if it.writes_base() { changed } else { 0 };
+            }
+            Instruction::Block(it) => {
+                let (lowest, changed) = before.block_addresses(&it);
+                self.leave(Phase::Step(2));
+                self.address = lowest;
+                self.data = if it.load {
+                    0
+                } else {
+                    self.read_with_flags(it.names()[0])
+                };
+                self.base = if it.w { changed } else { 0 };
+            }
+            Instruction::Branch(it) => {
+                if it.link {
+                    self.r[14] = r15_word(self.flags, before.pc.wrapping_sub(4));
+                }
+                self.store_counter(counter(before.pc.wrapping_add(it.distance)));
+            }
+            Instruction::Other => unreachable!("a stop comes before step 1"),
+        }
+    }
+
+    /// The only or the second step of a processing word: `r15` is what Rn reads as 15, and
+    /// `next_word` is what IX takes unless the counter is stored.
+    fn operate(&mut self, it: &Processing, operand: Shifted, r15: u32, next_word: Option<u32>) {
+        let rn = if it.rn == 15 { r15 } else { self.r[it.rn] };
+        let computed = compute(it.operation, rn, operand, self.flags);
+        if it.sets && it.rd == 15 {
+            self.flags = computed.result >> 28;
+        } else if it.sets {
+            self.flags = computed.flags;
+        }
+        if it.only_compares() {
+            self.boundary(next_word, true);
+        } else {
+            self.write_last(it.rd, computed.result, next_word);
+        }
+    }
+
+    /// The last own step writes a register, or the counter.
+    fn write_last(&mut self, name: usize, value: u32, next_word: Option<u32>) {
+        if name == 15 {
+            self.store_counter(counter_of(value));
+        } else {
+            self.r[name] = value;
+            self.boundary(next_word, true);
+        }
+    }
+
+    // Steps 2 and later: PC is A+12.
+
+    fn later_step(&mut self, step: u32, memory: &mut [u8]) {
+        match decode(self.ix_word()) {
+            Instruction::Processing(it) => self.second_step(&it),
+            Instruction::Single(it) => self.single_step(&it, step, memory),
+            Instruction::Block(it) if it.load => self.block_load_step(&it, step, memory),
+            Instruction::Block(it) => self.block_store_step(&it, step, memory),
+            Instruction::Branch(_) | Instruction::Other => unreachable!("one step at most"),
+        }
+    }
+
+    fn second_step(&mut self, it: &Processing) {
+        let Operand::ByRegister { rm, shift, rs } = it.operand else {
+            unreachable!("only a shift by register has a second step");
+        };
+        let value = self.read_with_flags(rm);
+        let operand = shift_by_register(shift, self.r[rs], value, self.carry());
+        self.operate(it, operand, self.pc, self.ir2);
+    }
+
+    fn single_step(&mut self, it: &Single, step: u32, memory: &mut [u8]) {
+        if step == 3 {
+            return self.write_last(it.rd, self.data, self.ir2);
+        }
+        if it.writes_base() {
+            self.r[it.rn] = self.base;
+        }
+        if it.load {
+            let value = memory::load(memory, self.address, it.byte);
+            self.leave(Phase::Step(3));
+            self.data = value;
+        } else {
+            memory::store(memory, self.address, self.data, it.byte);
+            self.boundary(self.ir2, true);
+        }
+    }
+
+    fn block_load_step(&mut self, it: &Block, step: u32, memory: &[u8]) {
+        let names = it.names();
+        let n = names.len() as u32;
+        if step == n + 2 {
+            return self.write_last(names[n as usize - 1], self.data, self.ir2);
+        }
+        if step > 2 {
+            self.r[names[step as usize - 3]] = self.data;
+        } else if it.w {
+            self.r[it.rn] = self.base;
+        }
+        let address = self.address;
+        self.leave(Phase::Step(step + 1));
+        self.data = memory::word(memory, address);
+        self.address = if step == n + 1 {
+            0
+        } else {
+            address.wrapping_add(4)
+        };
+    }
+
+    fn block_store_step(&mut self, it: &Block, step: u32, memory: &mut [u8]) {
+        let names = it.names();
+        memory::set_word(memory, self.address, self.data);
+        if step == 2 && it.w {
+            self.r[it.rn] = self.base;
+        }
+        if step == names.len() as u32 + 1 {
+            return self.boundary(self.ir2, true);
+        }
+        let address = self.address;
+        self.leave(Phase::Step(step + 1));
+        self.address = address.wrapping_add(4);
+        self.data = self.read_with_flags(names[step as usize - 1]);
+    }
+}
