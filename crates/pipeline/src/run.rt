@@ -115,12 +115,11 @@ impl Core {
         }
     }
 
-    pub fn run(self, memory: &mut [u8], budget: u64) -> CoreRan
+    pub fn run(mut self, memory: &mut [u8], budget: u64) -> CoreRan
         ensures { λ r. ⌜ ran (r .answer) (r .used) (machine (r .core .registers) (r .core .control) (now (memory .exit))) ≡ run (length (now (memory .entry))) budget (machine (self .registers) (self .control) (now (memory .entry))) ⌝ }
     {
-        let mut registers = self.registers;
         let c = self.control;
-        let answer = refusal(memory.len(), budget, c, &registers);
+        let answer = refusal(memory.len(), budget, c, &self.registers);
         if answer != 0 {
             return CoreRan {
                 answer,
@@ -135,12 +134,13 @@ impl Core {
                 core: self,
             };
         }
-        let went = run_on(c, &mut registers, memory, budget);
+        let went = run_on(c, &mut self.registers, memory, budget);
         let control = went.control;
+        self.control = control;
         CoreRan {
             answer: went.answer,
             used: went.used,
-            core: Core { registers, control },
+            core: self,
         }
     }
 }
