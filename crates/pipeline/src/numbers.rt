@@ -34,6 +34,7 @@ use transfer::named::count;
 use word::Block;
 use word::Instruction;
 use word::reader;
+use word::writer::is_other;
 
 // ---- a stop found
 
@@ -55,18 +56,6 @@ pub fn stop_found(c: Control, registers: &[u32; 15]) -> u32
 }
 
 // ---- a bad record
-
-fn is_other(i: Instruction) -> bool
-    ensures { λ r. ⌜ r ≡ isOther i ⌝ }
-{
-    match i {
-        Instruction::Processing(_) => false,
-        Instruction::Single(_) => false,
-        Instruction::Block(_) => false,
-        Instruction::Branch(_) => false,
-        Instruction::Other(_) => true,
-    }
-}
 
 // The first rule of 23 that an instruction breaks, or 0.
 fn rule_broken(i: Instruction) -> u32

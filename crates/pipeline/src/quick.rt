@@ -1,7 +1,6 @@
 // Whole instructions from a boundary on, while the longest fits into the budget: what the plain machine's step does, and the core after its duration.
 ghost use mathlib.Core.Path.{_≡_};
 ghost use Prim.Native.Nat.{ℕ, _+_, _≤_, _<_, _^_};
-ghost use Rattle.semantics.specs.Effect.{nextAddress};
 ghost use mathlib.Core.Bool.{true};
 ghost use mathlib.Core.List.{List};
 ghost use Rattle.pipeline.specs.Machine.{machine};
@@ -14,22 +13,12 @@ use crate::Under;
 use crate::cycle::cycle;
 use crate::steps::behind;
 use datapath::counter::ahead;
-use datapath::counter::counter;
 use memory::Fetched;
 use memory::fetch;
-use registers::Goes;
 use semantics::Board;
 use semantics::Performed;
+use semantics::perform::next_address;
 use semantics::perform::perform_at;
-
-fn next_address(a: u32, goes: Goes) -> u32
-    ensures { λ r. ⌜ r ≡ nextAddress a goes ⌝ }
-{
-    match goes {
-        Goes::Next => ahead(a, 4),
-        Goes::To(word) => counter(word),
-    }
-}
 
 // After an instruction that met no stop.
 fn moved(at: Between, r: Performed) -> Between

@@ -1,26 +1,14 @@
 // One instruction over lent registers and memory, so that a run copies no record.
 ghost use mathlib.Core.Path.{_≡_};
-ghost use Rattle.semantics.specs.Effect.{nextAddress};
 ghost use Rattle.plain.specs.Machine.{step};
 ghost use Rattle.plain.specs.Lent.{lent, moved};
 use crate::At;
-use datapath::counter::ahead;
-use datapath::counter::counter;
 use memory::Fetched;
 use memory::fetch;
-use registers::Goes;
 use semantics::Board;
 use semantics::Performed;
+use semantics::perform::next_address;
 use semantics::perform::perform;
-
-fn next_address(a: u32, goes: Goes) -> u32
-    ensures { λ r. ⌜ r ≡ nextAddress a goes ⌝ }
-{
-    match goes {
-        Goes::Next => ahead(a, 4),
-        Goes::To(word) => counter(word),
-    }
-}
 
 // A stop changes only the stop.
 fn moved(at: At, p: Performed) -> At

@@ -10,7 +10,7 @@ ghost use Rattle.semantics.specs.declared.Board.{Board};
 ghost use Rattle.memory.specs.declared.Fetched.{Fetched};
 ghost use Rattle.memory.specs.Memory.{wordAt};
 ghost use Rattle.registers.specs.declared.Goes.{Goes};
-ghost use Rattle.semantics.specs.Effect.{refills, loadEffect, storeEffect, blockLoadEffect, blockStoreEffect};
+ghost use Rattle.semantics.specs.Effect.{nextAddress, refills, loadEffect, storeEffect, blockLoadEffect, blockStoreEffect};
 ghost use Rattle.semantics.specs.Perform.{resultOf, performed, done, performs};
 ghost use Rattle.semantics.specs.Executed.{executed};
 use crate::Board;
@@ -23,6 +23,7 @@ use bits::bit;
 use bits::field;
 use condition::passes;
 use datapath::counter::ahead;
+use datapath::counter::counter;
 use memory::Fetched;
 use memory::fetch;
 use processing::process;
@@ -295,5 +296,15 @@ pub fn perform_at(
     match fetch(memory, a) {
         Fetched::Word(word) => perform(word, registers, memory, flags, a, board),
         Fetched::Blank => stopped(21, flags),
+    }
+}
+
+// The address of the next instruction.
+pub fn next_address(a: u32, goes: Goes) -> u32
+    ensures { λ r. ⌜ r ≡ nextAddress a goes ⌝ }
+{
+    match goes {
+        Goes::Next => ahead(a, 4),
+        Goes::To(word) => counter(word),
     }
 }

@@ -151,7 +151,7 @@ fn branch(i: Branch) -> Written
     put(flag(head(i.condition, 5), i.link), 24, i.offset)
 }
 
-fn is_other(i: Instruction) -> bool
+pub fn is_other(i: Instruction) -> bool
     ensures { λ r. ⌜ r ≡ isOther i ⌝ }
 {
     match i {

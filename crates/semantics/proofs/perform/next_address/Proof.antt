@@ -1,6 +1,6 @@
 use borrow.Author.Needs.{needs}
-use Rattle.plain.proofs.step.next_address.Statement.{statement}
-use Rattle.plain.proofs.step.next_address.Tie as tie
+use Rattle.semantics.proofs.perform.next_address.Statement.{statement}
+use Rattle.semantics.proofs.perform.next_address.Tie as tie
 
 returns : tie.Need-returns
 returns c = simp (c .ahead .ensures, c .before .enum-told .given .1)
