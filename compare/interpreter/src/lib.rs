@@ -12,4 +12,5 @@ pub mod pipeline;
 pub mod plain;
 pub mod programs;
 pub mod random;
+pub mod reports;
 pub mod vectors;

@@ -2,9 +2,9 @@
 mod case;
 mod print;
 mod state;
-mod token;
 
-use token::Token;
+use tokens::token;
+use tokens::token::Token;
 
 // A proved loop has to end, and nothing says that the input does: the turns are counted down from a number that no run uses up.
 fn main() {

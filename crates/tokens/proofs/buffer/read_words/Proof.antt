@@ -3,8 +3,8 @@ use Prim.Native.Nat.{_≤_, _-_}
 use mathlib.Core.Path.{_≡_}
 use lib.ListN.{length}
 use borrow.Author.Needs.{needs}
-use Rattle.plain_vectors.proofs.case.read_words.Statement.{statement}
-use Rattle.plain_vectors.proofs.case.read_words.Tie as tie
+use Rattle.tokens.proofs.buffer.read_words.Statement.{statement}
+use Rattle.tokens.proofs.buffer.read_words.Tie as tie
 
 abbrev Inv-loop : tie.InvT-loop
 Inv-loop memory₀ k i₀ memory i = (length memory ≡ length memory₀) × (i ≤ k)

@@ -1,8 +1,8 @@
 -- `value` is safe and ends: the index stays below the length. Assumes nothing.
 use Prim.Native.Nat.{_≤_, _-_}
 use borrow.Author.Needs.{needs}
-use Rattle.plain_vectors.proofs.token.value.Statement.{statement}
-use Rattle.plain_vectors.proofs.token.value.Tie as tie
+use Rattle.tokens.proofs.token.value.Statement.{statement}
+use Rattle.tokens.proofs.token.value.Tie as tie
 
 abbrev Inv-loop : tie.InvT-loop
 Inv-loop text word₀ i₀ word i = i ≤ 8

@@ -1,0 +1,166 @@
+//! The images that are timed. Each loops without end.
+
+use interpreter::arm::Shift;
+use interpreter::assembler::*;
+use interpreter::programs::Program;
+
+/// The bytes of memory of each image.
+const LENGTH: usize = 4096;
+
+// Conditions.
+const NE: u32 = 1;
+const CS: u32 = 2;
+
+/// Where the CRC image keeps its message, how long it is and where its result goes.
+pub const MESSAGE: u32 = 0x400;
+pub const MESSAGE_BYTES: u32 = 64;
+pub const RESULT: u32 = 0x800;
+
+pub const NAMES: [&str; 3] = ["alu", "transfers", "crc"];
+
+pub fn image(name: &str) -> Option<Program> {
+    match name {
+        "alu" => Some(alu()),
+        "transfers" => Some(transfers()),
+        "crc" => Some(crc()),
+        _ => None,
+    }
+}
+
+fn program(code: &[u32], r: [u32; 15]) -> Program {
+    let mut words = vec![0; LENGTH / 4];
+    words[..code.len()].copy_from_slice(code);
+    for index in 0..MESSAGE_BYTES / 4 {
+        words[(MESSAGE / 4 + index) as usize] = index.wrapping_mul(0x9E37_79B9) ^ 0x0123_4567;
+    }
+    Program {
+        words,
+        r,
+        flags: 0,
+        entry: 0,
+    }
+}
+
+/// A loop of sums, shifts by amount, compares and branches, one of them seldom taken.
+fn alu() -> Program {
+    let code = [
+        mov(0, rotated(11, 1)), // 0x400 turns
+        op(ADD, 1, 1, by_amount(2, Shift::Lsl, 3)),
+        op(EOR, 2, 2, by_amount(1, Shift::Ror, 7)),
+        ops(ADC, 3, 3, plain(2)),
+        op(ORR, 4, 1, by_amount(3, Shift::Lsr, 5)),
+        ops(CMP, 0, 4, plain(1)),
+        on(CS, op(SUB, 5, 4, plain(1))),
+        op(BIC, 6, 5, number(0xF0)),
+        ops(SUB, 0, 0, number(1)),
+        on(NE, branch_to(36, 4)),
+        branch_to(40, 0),
+    ];
+    let mut r = [0; 15];
+    r[1] = 0x1234_5678;
+    r[2] = 0x9ABC_DEF1;
+    program(&code, r)
+}
+
+/// Block and single transfers with shifts by register between them.
+fn transfers() -> Program {
+    let code = [
+        mov(8, rotated(11, 1)), // 0x400
+        mov(9, rotated(11, 2)), // 0x800
+        mov(10, number(16)),    // turns
+        block(LOAD | UP | W, 8, list(&[0, 1, 2, 3])),
+        op(ADD, 0, 0, by_register(1, Shift::Lsl, 10)),
+        single(STORE | UP, 0, 9, 4),
+        ldr(4, 9, 64),
+        op(ORR, 1, 1, by_register(4, Shift::Ror, 3)),
+        single(LOAD | BEFORE | UP | BYTE, 5, 9, 3),
+        op(EOR, 2, 5, by_register(2, Shift::Lsr, 10)),
+        single_by(LOAD | BEFORE | UP, 6, 8, by_amount(10, Shift::Lsl, 2)),
+        single(STORE | BEFORE | UP | BYTE, 2, 9, 33),
+        block(STORE | UP | BEFORE, 9, list(&[0, 1, 2, 4, 6])),
+        ops(SUB, 10, 10, number(1)),
+        on(NE, branch_to(56, 12)),
+        branch_to(60, 0),
+    ];
+    program(&code, [7; 15])
+}
+
+/// A CRC-32 over the message as a compiler would put it: a function that calls another for each
+/// byte, both stacking registers.
+fn crc() -> Program {
+    let stacked = |names: &[u32]| block(STORE | BEFORE | W, 13, list(names));
+    let unstacked = |names: &[u32]| block(LOAD | UP | W, 13, list(names));
+    let call = |from: u32, to: u32| branch_to(from, to) | 1 << 24;
+    let code = [
+        // 0: main
+        mov(13, rotated(10, 1)), // 0x1000, the stack
+        mov(0, rotated(11, 1)),  // 4: the message
+        mov(1, number(MESSAGE_BYTES)),
+        call(12, 32),
+        mov(4, rotated(11, 2)), // 16: the result's place
+        str(0, 4, 0),
+        mov(0, plain(0)),
+        branch_to(28, 4),
+        // 32: crc
+        stacked(&[4, 5, 6, 14]),
+        mov(4, plain(0)),
+        mov(5, plain(1)),
+        op(MVN, 0, 0, number(0)),
+        single(LOAD | UP | BYTE, 1, 4, 1), // 48: next
+        call(52, 76),
+        ops(SUB, 5, 5, number(1)),
+        on(NE, branch_to(60, 48)),
+        op(MVN, 0, 0, plain(0)),
+        unstacked(&[4, 5, 6, 15]),
+        0,
+        // 76: byte
+        stacked(&[4, 14]),
+        op(EOR, 0, 0, plain(1)),
+        mov(2, number(8)),
+        ldr(3, 15, 16),                       // 88: from 112
+        movs(0, by_amount(0, Shift::Lsr, 1)), // 92: bit
+        on(CS, op(EOR, 0, 0, plain(3))),
+        ops(SUB, 2, 2, number(1)),
+        on(NE, branch_to(104, 92)),
+        unstacked(&[4, 15]),
+        0xEDB8_8320, // 112
+    ];
+    program(&code, [0; 15])
+}
+
+#[cfg(test)]
+mod tests {
+    use super::*;
+    use interpreter::memory::word;
+    use interpreter::plain::Plain;
+
+    fn crc32(bytes: &[u8]) -> u32 {
+        !bytes.iter().fold(u32::MAX, |crc, &byte| {
+            (0..8).fold(crc ^ u32::from(byte), |crc, _| {
+                crc >> 1 ^ if crc & 1 == 1 { 0xEDB8_8320 } else { 0 }
+            })
+        })
+    }
+
+    #[test]
+    fn none_stops() {
+        for name in NAMES {
+            let program = image(name).unwrap();
+            let mut memory = program.memory();
+            let (_, mut plain) = Plain::start(program.r, program.flags, program.entry, &memory);
+            for _ in 0..3 {
+                assert_eq!(plain.run(&mut memory, 1_000_000), (0, 1_000_000), "{name}");
+            }
+        }
+    }
+
+    #[test]
+    fn the_crc_is_one() {
+        let program = image("crc").unwrap();
+        let mut memory = program.memory();
+        let (_, mut plain) = Plain::start(program.r, program.flags, program.entry, &memory);
+        plain.run(&mut memory, 10_000);
+        let message = MESSAGE as usize..(MESSAGE + MESSAGE_BYTES) as usize;
+        assert_eq!(word(&memory, RESULT), crc32(&memory[message]));
+    }
+}

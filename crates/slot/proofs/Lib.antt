@@ -1,0 +1,5 @@
+pub mod Words
+pub mod CoreLaws
+pub mod PlainLaws
+pub mod RecordLaws
+pub mod Calling

@@ -1,0 +1,13 @@
+use mathlib.Core.Path.{refl}
+use Rattle.slot.specs.PlainArray.{unpacked}
+use borrow.Author.Needs.{needs}
+use Rattle.slot.proofs.plain_array.unpacked.Statement.{statement}
+use Rattle.slot.proofs.plain_array.unpacked.Tie as tie
+
+returns : tie.Need-returns
+unfolding unpacked
+returns c = refl
+
+pub unpacked-spec : {M : Type 1} → statement M
+unpacked-spec =
+    tie.close (tie.spec (λ c. search needs) (λ c. search needs) (λ c. search needs) (λ c. search needs) (λ c. search needs) (λ c. search needs) (λ c. search needs) (λ c. search needs) (λ c. search needs) (λ c. search needs) (λ c. search needs) (λ c. search needs) (λ c. search needs) (λ c. search needs) (λ c. search needs) (λ c. search needs) (λ c. search needs) (λ c. search needs) (λ c. search needs) returns)

@@ -1,0 +1,73 @@
+-- What each call of the library answers and leaves: the calls of the crates below, on arrays.
+use Prim.Native.Nat.{ℕ}
+use mathlib.Core.List.{List}
+use lib.ListN.{length}
+use Rattle.bits.specs.Choice.{pick}
+use Rattle.word.specs.Writer.{Answer, writeOf}
+use Rattle.pipeline.specs.declared.Core.{Core}
+use Rattle.pipeline.specs.Machine as pipelined
+use Rattle.pipeline.specs.Run as pipeline
+use Rattle.plain.specs.declared.Plain.{Plain}
+use Rattle.plain.specs.Machine as unpiped
+use Rattle.plain.specs.Run as plain
+use Rattle.slot.specs.CoreArray as coreArray
+use Rattle.slot.specs.PlainArray as plainArray
+use Rattle.slot.specs.RecordArray.{recordOf, standsForRecord}
+
+-- a start: the number it answers, and the array it leaves
+pub record Started : Type 0 where
+  pub answer : ℕ
+  pub words : List ℕ
+
+abbrev pub started : ℕ → List ℕ → Started
+started answer words = record { answer = answer; words = words }
+
+-- a run: the number it answers, the cycles or instructions it counted, and the array and memory it leaves
+pub record Called : Type 0 where
+  pub answer : ℕ
+  pub used : ℕ
+  pub words : List ℕ
+  pub memory : List ℕ
+
+abbrev pub called : ℕ → ℕ → List ℕ → List ℕ → Called
+called answer used words mem = record { answer = answer; used = used; words = words; memory = mem }
+
+abbrev pub coreBegun : pipeline.Begun → Started
+coreBegun b = started (b .answer) (coreArray.packed (b .core))
+
+-- registers, flags, entry, memory
+unfoldable pub coreStart : List ℕ → ℕ → ℕ → List ℕ → Started
+coreStart g flags entry mem = coreBegun (pipeline.start g flags entry mem)
+
+abbrev pub coreCalled : pipeline.Ran → Called
+coreCalled r =
+    called (r .answer) (r .used) (coreArray.packed (pipeline.core (r .machine .registers) (r .machine .control))) (r .machine .memory)
+
+abbrev pub coreMachine : Core → List ℕ → pipelined.Machine
+coreMachine c mem = pipelined.machine (c .registers) (c .control) mem
+
+-- array, memory, budget; an array that stands for no core is a bad record
+unfoldable pub coreRun : List ℕ → List ℕ → ℕ → Called
+coreRun words mem budget =
+    pick (coreArray.standsForCore words)
+    (coreCalled (pipeline.run (length mem) budget (coreMachine (coreArray.unpacked words) mem)))
+    (called 11 0 words mem)
+
+abbrev pub plainBegun : plain.Begun → Started
+plainBegun b = started (b .answer) (plainArray.packed (b .plain))
+
+unfoldable pub plainStart : List ℕ → ℕ → ℕ → List ℕ → Started
+plainStart g flags entry mem = plainBegun (plain.start g flags entry mem)
+
+abbrev pub plainCalled : plain.Ran → Called
+plainCalled r = called (r .answer) (r .done) (plainArray.packed (r .machine .plain)) (r .machine .memory)
+
+unfoldable pub plainRun : List ℕ → List ℕ → ℕ → Called
+plainRun words mem count = plainCalled (plain.run count (unpiped.machine (plainArray.unpacked words) mem))
+
+abbrev pub answer : ℕ → ℕ → Answer
+answer number word = record { number = number; word = word }
+
+-- an array that stands for no record is refused like any other record that has no word
+unfoldable pub wordOf : List ℕ → Answer
+wordOf words = pick (standsForRecord words) (writeOf (recordOf words)) (answer 5 0)

@@ -1,0 +1,4 @@
+pub mod CoreArray
+pub mod PlainArray
+pub mod RecordArray
+pub mod Calls

@@ -1,0 +1,38 @@
+// The plain machine's calls.
+ghost use mathlib.Core.Path.{_≡_};
+ghost use Rattle.slot.specs.Calls.{started, called, plainStart, plainRun};
+use crate::plain_array::packed;
+use crate::plain_array::unpacked;
+use plain::Plain;
+
+#[no_mangle]
+pub extern "C" fn slot_plain_start(
+    plain: &mut [u32; 19],
+    registers: &[u32; 15],
+    flags: u32,
+    entry: u32,
+    memory: &[u8],
+) -> u32
+    ensures { λ r. ⌜ started r (now (plain .exit)) ≡ plainStart (now (registers .entry)) flags entry (now (memory .entry)) ⌝ }
+{
+    let begun = Plain::start(*registers, flags, entry, memory);
+    let fresh = begun.plain;
+    *plain = packed(fresh);
+    begun.answer
+}
+
+#[no_mangle]
+pub extern "C" fn slot_plain_run(
+    plain: &mut [u32; 19],
+    memory: &mut [u8],
+    count: u64,
+    used: &mut u64,
+) -> u32
+    ensures { λ r. ⌜ called r (now (used .exit)) (now (plain .exit)) (now (memory .exit)) ≡ plainRun (now (plain .entry)) (now (memory .entry)) count ⌝ }
+{
+    let ran = unpacked(plain).run(memory, count);
+    let next = ran.plain;
+    *plain = packed(next);
+    *used = ran.done;
+    ran.answer
+}
