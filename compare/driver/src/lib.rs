@@ -1,6 +1,7 @@
 //! The product's archive beside the unrelated interpreter.
 
 pub mod archive;
+pub mod dense;
 pub mod difference;
 pub mod images;
 pub mod odd;

@@ -156,6 +156,12 @@ impl<M: Machine> Pair<M> {
         self.length = length;
     }
 
+    /// What the owner of the memory writes between calls.
+    pub fn poke(&mut self, address: usize, byte: u8) {
+        self.product_memory[address] = byte;
+        self.expected_memory[address] = byte;
+    }
+
     /// The most bytes that can be lent.
     pub fn most(&self) -> usize {
         self.product_memory.len()

@@ -9,7 +9,7 @@ use driver::difference::{show, CallDifference};
 use driver::odd::{self, Fields};
 use driver::pair::{Machine, Pair};
 use driver::words;
-use driver::{archive, images};
+use driver::{archive, dense, images};
 use interpreter::pipeline::Core;
 use interpreter::plain::Plain;
 use interpreter::programs::{self, Program};
@@ -40,6 +40,7 @@ struct Machines {
     /// Instructions: retired by the core, done by the plain machine.
     instructions: u64,
     refused: u64,
+    pokes: u64,
     tampered: u64,
     /// Calls on tampered records by what they answered.
     tampered_bad: u64,
@@ -71,7 +72,7 @@ impl Machines {
             .collect();
         format!(
             "{kind}: {} images, {} starts, {} calls, {} instructions, {} {unit}, {} one by one, \
-             {} refused calls, {} tampered records ({} bad), answers {}",
+             {} refused calls, {} bytes changed between calls, {} tampered records ({} bad), answers {}",
             self.images,
             self.starts,
             self.calls,
@@ -79,6 +80,7 @@ impl Machines {
             self.used,
             self.singles,
             self.refused,
+            self.pokes,
             self.tampered,
             self.tampered_bad,
             answers.join(" ")
@@ -349,6 +351,9 @@ fn split<M: Compared>(
 // Random images.
 
 fn draw(random: &mut Random) -> Program {
+    if random.chance(1, 10) {
+        return dense::image(random);
+    }
     let words = match random.below(400) {
         0 => 16_384,
         1..=8 => 1000,
@@ -404,12 +409,15 @@ fn random_image<M: Compared>(
             moments -= 1;
             tamper(counts, &pair, random)?;
         }
+        if random.chance(1, 40) {
+            poke(counts, &mut pair, random);
+        }
         if call == end_at {
             M::near_the_end(&mut pair, random);
         }
         let budget = match style {
             0 => 1,
-            1 => u64::from(random.below(13)),
+            1 => u64::from(random.below(45)),
             2 => u64::from(random.below(20_000)),
             _ => random.pick(&[1, 1, 2, 3, 7, 50, 400, 999, 3000]),
         };
@@ -475,6 +483,19 @@ fn refused<M: Compared>(
     Ok(())
 }
 
+/// The owner of the memory writes to it between calls, mostly near the words already fetched.
+fn poke<M: Compared>(counts: &mut Machines, pair: &mut Pair<M>, random: &mut Random) {
+    let near = pair.product.as_ref()[15] as usize + random.below(24) as usize;
+    let address = if near >= 12 && near - 12 < pair.length && random.chance(2, 3) {
+        near - 12
+    } else {
+        random.below(pair.length as u32) as usize
+    };
+    let byte = pair.memory()[address] ^ 1 << random.below(8);
+    pair.poke(address, byte);
+    counts.pokes += 1;
+}
+
 /// Each field at odd values, then a few fields together, on copies.
 fn tamper<M: Compared>(counts: &mut Machines, pair: &Pair<M>, random: &mut Random) -> Checked<()> {
     let length = pair.length as u32;
@@ -519,7 +540,7 @@ fn run_tampered<M: Compared>(
     } else {
         pair.length
     };
-    let budget = random.pick(&[0, 1, 1, 1, 2, 3, 5, 20, 60, 1_000_001]);
+    let budget = random.pick(&[0, 1, 1, 1, 2, 3, 5, 19, 20, 21, 22, 40, 60, 1_000_001]);
     counts.tampered += 1;
     let (answer, used) = pair.run(lent, budget)?;
     counts.tampered_bad += u64::from(answer == 11);
