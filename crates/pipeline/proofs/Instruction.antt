@@ -143,13 +143,13 @@ module _ (i : Single) (g : List ℕ) (f : ℕ) where
   unfolding later
   store-later k pc ls mem l = ap (λ b. pick b (loadLater i k g f ls mem) (storeLater i g f ls mem)) l
 
-  pub load-effect : (a : ℕ) (mem : List ℕ) → i .l ≡ true → effectOf (Instruction.Single i) g f a mem ≡ loadEffect i g f (ahead a 8) mem
+  pub load-effect : (a : ℕ) (mem : List ℕ) → i .l ≡ true → effectOf (Instruction.Single i) g f a mem ≡ loadEffect i g f a mem
   unfolding effectOf
-  load-effect a mem l = ap (λ b. pick b (loadEffect i g f (ahead a 8) mem) (storeEffect i g f a mem)) l
+  load-effect a mem l = ap (λ b. pick b (loadEffect i g f a mem) (storeEffect i g f a mem)) l
 
   pub store-effect : (a : ℕ) (mem : List ℕ) → i .l ≡ false → effectOf (Instruction.Single i) g f a mem ≡ storeEffect i g f a mem
   unfolding effectOf
-  store-effect a mem l = ap (λ b. pick b (loadEffect i g f (ahead a 8) mem) (storeEffect i g f a mem)) l
+  store-effect a mem l = ap (λ b. pick b (loadEffect i g f a mem) (storeEffect i g f a mem)) l
 
 module _ (i : Block) (g : List ℕ) (f : ℕ) where
   block-load-first : (pc : ℕ) (mem : List ℕ) → i .l ≡ true
@@ -173,11 +173,11 @@ module _ (i : Block) (g : List ℕ) (f : ℕ) where
 
   pub block-load-effect : (a : ℕ) (mem : List ℕ) → i .l ≡ true → effectOf (Instruction.Block i) g f a mem ≡ blockLoadEffect i g f mem
   unfolding effectOf
-  block-load-effect a mem l = ap (λ b. pick b (blockLoadEffect i g f mem) (blockStoreEffect i g f (ahead a 12) mem)) l
+  block-load-effect a mem l = ap (λ b. pick b (blockLoadEffect i g f mem) (blockStoreEffect i g f a mem)) l
 
-  pub block-store-effect : (a : ℕ) (mem : List ℕ) → i .l ≡ false → effectOf (Instruction.Block i) g f a mem ≡ blockStoreEffect i g f (ahead a 12) mem
+  pub block-store-effect : (a : ℕ) (mem : List ℕ) → i .l ≡ false → effectOf (Instruction.Block i) g f a mem ≡ blockStoreEffect i g f a mem
   unfolding effectOf
-  block-store-effect a mem l = ap (λ b. pick b (blockLoadEffect i g f mem) (blockStoreEffect i g f (ahead a 12) mem)) l
+  block-store-effect a mem l = ap (λ b. pick b (blockLoadEffect i g f mem) (blockStoreEffect i g f a mem)) l
 
 module _ (w : ℕ) (g : List ℕ) (f a k t n : ℕ) (mem : List ℕ) (ps : passes (field w 28 4) f ≡ true) where
   -- the flight after step 1 of an instruction
@@ -211,7 +211,7 @@ module _ (w : ℕ) (g : List ℕ) (f a k t n : ℕ) (mem : List ℕ) (ps : passe
       let o = branched i g f a in
       rw (ps, e, behind-ahead a r, turn12 a) (land (o .registers) (o .flags) (o .goes) w a k (suc t) n 3 mem (steps (o .registers) e))
 
-  load : (i : Single) → readOf w ≡ Instruction.Single i → i .l ≡ true → FliesTo (Word w) g f a k t n mem 2 (loadEffect i g f (ahead a 8) mem)
+  load : (i : Single) → readOf w ≡ Instruction.Single i → i .l ≡ true → FliesTo (Word w) g f a k t n mem 2 (loadEffect i g f a mem)
   unfolding cycle ownOf loadLater loadEffect lead
   load i e l =
       let o = arrives (single.withBase i g (single.changedBase i g f (ahead a 8))) f (i .rd) (single.loadedValue i mem (single.addressOf i g f (ahead a 8))) in
@@ -282,8 +282,8 @@ module _ (w : ℕ) (g : List ℕ) (f a k t n : ℕ) (mem : List ℕ) (ps : passe
   )
 
   blockStore : (i : Block) (x : ℕ) (xs : List ℕ) → readOf w ≡ Instruction.Block i → i .l ≡ false → block.named (i .list) ≡ x ∷ xs
-      → Keeps a mem (blockStoreEffect i g f (ahead a 12) mem .memory)
-      → FliesTo (Word w) g f a k t n mem (block.count i) (blockStoreEffect i g f (ahead a 12) mem)
+      → Keeps a mem (blockStoreEffect i g f a mem .memory)
+      → FliesTo (Word w) g f a k t n mem (block.count i) (blockStoreEffect i g f a mem)
   unfolding cycle ownOf blockStoreLater storeStep blockStoreEffect block.storesAll block.stores lead
   blockStore i x [] e l d ks =
       rw (ps, e, block-store-first i g f (ahead a 8) mem l, turn12 a, d) (
@@ -351,7 +351,7 @@ module _ (g : List ℕ) (f a : ℕ) (mem : List ℕ) (n : ℕ) (short : n ≤ 65
       let c8 : hits (single.addressOf i g f (ahead a 8) ∷ []) (ahead a 8) ≡ false = ap (λ b. hits (pick b [] (single.addressOf i g f (ahead a 8) ∷ [])) (ahead a 8)) (sym l) ∙ q .clear8 in
       (single-kept i mem _ _ (ahead a 4) c4, single-kept i mem _ _ (ahead a 8) c8)
 
-  block-keeps : (i : Block) → i .l ≡ false → block.count i ≢ 0 → Quiet (Instruction.Block i) g f a n → Keeps a mem (blockStoreEffect i g f (ahead a 12) mem .memory)
+  block-keeps : (i : Block) → i .l ≡ false → block.count i ≢ 0 → Quiet (Instruction.Block i) g f a n → Keeps a mem (blockStoreEffect i g f a mem .memory)
   unfolding blockStoreEffect storedBy movedBy
   block-keeps i l z q =
       let at = span (block.count i) (block.lowestAddress i g) in

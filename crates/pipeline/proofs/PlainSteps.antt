@@ -24,7 +24,7 @@ use Rattle.datapath.specs.Counter.{ahead, counter}
 use Rattle.datapath.proofs.Counters.{ahead-lt, counter-lt}
 use Rattle.registers.specs.declared.Goes.the-variants.{Next, To}
 use Rattle.semantics.specs.Effect.{Effect, refills, nextAddress}
-use Rattle.semantics.specs.Perform.{stopFor, effectFor, stepsFor, performs, resultFor}
+use Rattle.semantics.specs.Perform.{resultOf, performed, done, stopFor, effectFor, stepsFor, performs, resultFor}
 use Rattle.semantics.proofs.Durations.{refills-short, steps-for-short}
 use Rattle.plain.specs.Machine as plain
 use Rattle.plain.specs.Trace.{stopMet, duration}
@@ -48,7 +48,7 @@ pub stop-is : (p : plain.Machine) → stopMet p ≡ stopOf p
 unfolding stopMet plain.performedAt performs
 stop-is p = go (stopOf p)
   where
-    go : (s : ℕ) → resultFor s (p .plain .registers) (p .plain .flags) (p .memory) (stepsFor (wordOf p) (p .plain .registers) (p .plain .flags)) (effectOf p) .performed .stop ≡ s
+    go : (s : ℕ) → resultFor s (p .plain .registers) (p .plain .flags) (p .plain .a) (p .memory) (stepsFor (wordOf p) (p .plain .registers) (p .plain .flags)) (effectOf p) .performed .stop ≡ s
     go zero = refl
     go (suc s) = rw (ne-eqb (suc s) 0 (λ e. omega arith))
 
@@ -101,20 +101,16 @@ next-lt a Next = ahead-lt a 4
 next-lt a (To w) = counter-lt w
 
 pub step-range : (p : plain.Machine) → p .plain .a < 2 ^ 26 → plain.step p .plain .a < 2 ^ 26
-unfolding plain.step
-step-range p h = go (eqb (plain.performedAt p .performed .stop) 0)
+unfolding plain.step plain.performedAt performs
+step-range p h = go (stopOf p) (eqb (stopOf p) 0)
   where
-    go : (b : Bool) → pick b (plain.movedOn (plain.performedAt p) p) (plain.stoppedWith (plain.performedAt p .performed .stop) p) .plain .a < 2 ^ 26
-    go true = next-lt (p .plain .a) (plain.performedAt p .performed .goes)
-    go false = h
+    go : (s : ℕ) (b : Bool) → pick b (done (p .plain .a) (stepsFor (wordOf p) (p .plain .registers) (p .plain .flags)) (effectOf p)) (resultOf (performed s (p .plain .flags) (p .plain .a) 0) (p .plain .registers) (p .memory)) .performed .next < 2 ^ 26
+    go s true = next-lt (p .plain .a) (effectOf p .out .goes)
+    go s false = h
 
 pub step-length : (p : plain.Machine) → plain.step p .plain .length ≡ p .plain .length
 unfolding plain.step
-step-length p = go (eqb (plain.performedAt p .performed .stop) 0)
-  where
-    go : (b : Bool) → pick b (plain.movedOn (plain.performedAt p) p) (plain.stoppedWith (plain.performedAt p .performed .stop) p) .plain .length ≡ p .plain .length
-    go true = refl
-    go false = refl
+step-length p = refl
 
 -- ---- a stop met is 21 to 25
 

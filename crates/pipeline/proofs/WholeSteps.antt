@@ -7,7 +7,6 @@ use lib.Dec.{eqb}
 use Rattle.bits.proofs.Tests.{zero-by, nonzero-by}
 use Rattle.memory.specs.Memory.{wordAt}
 use Rattle.semantics.specs.declared.Performed.{Performed}
-use Rattle.semantics.specs.Effect.{nextAddress}
 use Rattle.semantics.specs.Perform.{Result, resultOf, stopFor, performs}
 use mathlib.Core.Path.{_≡_, refl, sym, ap, _∙_}
 use native.Mathlib.Omega.{arith}
@@ -22,7 +21,7 @@ use Rattle.pipeline.specs.Term3.{boundary}
 use Rattle.pipeline.specs.Whole.{between, later, GoesOn, Kept, movedOn}
 use Rattle.pipeline.specs.declared.Between.{Between}
 use Rattle.pipeline.proofs.Flight.{away, Flight, climb}
-use Rattle.pipeline.proofs.PlainSteps.{stop-is, flight, duration-flight, flight-short, instruction, next-lt}
+use Rattle.pipeline.proofs.PlainSteps.{stop-is, flight, duration-flight, flight-short, instruction, step-range}
 use Rattle.pipeline.proofs.Position.{away-quiet, boundary-stop, climb-add}
 
 pub run-on : (b : ℕ) (m : Machine) → stopFound m ≡ 0 → runFrom (suc b) m ≡ oneMore (runFrom b (cycle m))
@@ -84,11 +83,13 @@ module _ (g : List ℕ) (b : Between) (n : ℕ) (mem : List ℕ) {r : Performed}
   pub positive-told : r .stop ≡ 0 → 0 < r .cycles
   positive-told z = omega (arith, cycles-told, duration-flight here (sym stop-told ∙ z))
 
-  step-told : r .stop ≡ 0 → plain.step here ≡ plain.machine (plain.plain h (nextAddress (b .a) (r .goes)) (r .flags) 0 n) new
+  step-told : r .stop ≡ 0 → plain.step here ≡ plain.machine (plain.plain h (r .next) (r .flags) 0 n) new
   unfolding plain.step here
-  step-told z =
-      let q : eqb (plain.performedAt here .performed .stop) 0 ≡ true = zero-by (ap (λ (x : Result). x .performed .stop) told) z in
-      rw q (ap (λ (x : Result). plain.movedOn x here) (sym told))
+  step-told z = ap (λ (x : Result). plain.after x n) (sym told) ∙ ap (λ s. plain.machine (plain.plain h (r .next) (r .flags) s n) new) z
+
+  next-told : r .stop ≡ 0 → b .a < 2 ^ 26 → r .next < 2 ^ 26
+  unfolding here
+  next-told z range = rw (step-told z) at (step-range here range)
 
   pub moves-on : (budget u : ℕ) (m₀ : Machine) → GoesOn budget m₀ u (between g b n mem) → r .stop ≡ 0 → 20 ≤ budget - u → b .a < 2 ^ 26 → n ≤ 65536
       → GoesOn budget m₀ (u + r .cycles) (between h (movedOn b r) n new)
@@ -109,7 +110,7 @@ module _ (g : List ℕ) (b : Between) (n : ℕ) (mem : List ℕ) {r : Performed}
 
   pub kept-on : {at₀ : Between} {budget u : ℕ} → Kept at₀ b budget u → r .stop ≡ 0 → 20 ≤ budget - u → Kept at₀ (movedOn b r) budget (u + r .cycles)
   kept-on k z room = record {
-    range = next-lt (b .a) (r .goes);
+    range = next-told z (k .range);
     within = omega (arith, k .within, short-told z);
     cycles = omega (arith, k .cycles);
     retired = omega (arith, k .retired, positive-told z);

@@ -5,7 +5,6 @@ use mathlib.Core.Bool.{Bool, true, false}
 use mathlib.Core.List.{List}
 use Rattle.datapath.specs.Counter.{ahead}
 use Rattle.memory.specs.Memory.{wordAt}
-use Rattle.semantics.specs.Effect.{nextAddress}
 use Rattle.semantics.specs.declared.Performed.{Performed}
 use Rattle.plain.specs.Machine as plain
 use Rattle.pipeline.specs.declared.Phase.{Phase}
@@ -37,7 +36,7 @@ pub record Kept (at₀ at : Between) (budget used : ℕ) : Type 0 where
 
 -- after an instruction that met no stop
 abbrev pub movedOn : Between → Performed → Between
-movedOn b r = record { a = nextAddress (b .a) (r .goes); flags = r .flags; cycles = b .cycles + r .cycles; retired = b .retired + 1 }
+movedOn b r = record { a = r .next; flags = r .flags; cycles = b .cycles + r .cycles; retired = b .retired + 1 }
 
 -- a run of this budget from m₀ that has used u stands at m, and both counts have room for the rest
 pub record Onward (budget : ℕ) (m₀ : Machine) (u : ℕ) (m : Machine) : Type 0 where

@@ -17,7 +17,6 @@ use memory::Fetched;
 use memory::fetch;
 use semantics::Board;
 use semantics::Performed;
-use semantics::perform::next_address;
 use semantics::perform::perform_at;
 
 // After an instruction that met no stop.
@@ -25,9 +24,8 @@ fn moved(at: Between, r: Performed) -> Between
     requires { ⌜ (at .cycles + r .cycles < 2 ^ 63) × (at .retired < 2 ^ 63) ⌝ }
     ensures { λ b. ⌜ b ≡ movedOn at r ⌝ }
 {
-    let goes = r.goes;
     Between {
-        a: next_address(at.a, goes),
+        a: r.next,
         flags: r.flags,
         cycles: at.cycles + r.cycles as u64,
         retired: at.retired + 1,

@@ -1,4 +1,3 @@
 pub mod Accepted
-pub mod Steps
 pub mod Loop
 pub mod Entry

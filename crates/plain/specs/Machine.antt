@@ -1,12 +1,8 @@
 -- The plain machine (the paper's term): one instruction after the other, with no pipeline.
 use Prim.Native.Nat.{ℕ}
 use mathlib.Core.List.{List}
-use lib.Dec.{eqb}
-use Rattle.bits.specs.Choice.{pick}
 use Rattle.memory.specs.Memory.{wordAt}
 use Rattle.semantics.specs.declared.Board.{Board}
-use Rattle.semantics.specs.declared.Performed.{Performed}
-use Rattle.semantics.specs.Effect.{nextAddress}
 use Rattle.semantics.specs.Perform.{Result, performs}
 use Rattle.plain.specs.declared.Plain.{Plain}
 
@@ -21,17 +17,9 @@ machine p mem = record { plain = p; memory = mem }
 abbrev pub plain : List ℕ → ℕ → ℕ → ℕ → ℕ → Plain
 plain g a f stop length = record { registers = g; a = a; flags = f; stop = stop; length = length }
 
--- a stop changes only the stop
-abbrev pub stoppedWith : ℕ → Machine → Machine
-stoppedWith stop m = machine (plain (m .plain .registers) (m .plain .a) (m .plain .flags) stop (m .plain .length)) (m .memory)
-
--- A+4 unless the counter was stored
-abbrev pub movedOn : Result → Machine → Machine
-movedOn r m =
-    machine (plain (r .registers) (nextAddress (m .plain .a) (r .performed .goes)) (r .performed .flags) 0 (m .plain .length)) (r .memory)
-
-abbrev pub after : Result → Machine → Machine
-after r m = pick (eqb (r .performed .stop) 0) (movedOn r m) (stoppedWith (r .performed .stop) m)
+-- what came of an instruction, in memory of this length
+abbrev pub after : Result → ℕ → Machine
+after r length = machine (plain (r .registers) (r .performed .next) (r .performed .flags) (r .performed .stop) length) (r .memory)
 
 -- the word at A, performed there
 unfoldable pub performedAt : Machine → Result
@@ -40,4 +28,4 @@ performedAt m =
     (record { length = m .plain .length })
 
 unfoldable pub step : Machine → Machine
-step m = after (performedAt m) m
+step m = after (performedAt m) (m .plain .length)

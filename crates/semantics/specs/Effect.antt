@@ -24,7 +24,8 @@ effect o mem = record { out = o; memory = mem }
 
 -- read and base, then the register: a load into the base register wins
 unfoldable pub loadEffect : Single → List ℕ → ℕ → ℕ → List ℕ → Effect
-loadEffect i g f pc mem =
+loadEffect i g f a mem =
+    let pc = ahead a 8 in
     effect
     (arrives (single.withBase i g (single.changedBase i g f pc)) f (i .rd) (single.loadedValue i mem (single.addressOf i g f pc)))
     mem
@@ -42,15 +43,15 @@ blockLoadEffect i g f mem =
     effect (block.loads (block.named (i .list)) (block.withBase i g (block.changedBase i g)) f (block.lowestAddress i g) mem) mem
 
 unfoldable pub blockStoreEffect : Block → List ℕ → ℕ → ℕ → List ℕ → Effect
-blockStoreEffect i g f a12 mem =
+blockStoreEffect i g f a mem =
     let h = block.withBase i g (block.changedBase i g) in
-    effect (out h f Next) (block.storesAll (block.named (i .list)) g h f a12 (block.lowestAddress i g) mem)
+    effect (out h f Next) (block.storesAll (block.named (i .list)) g h f (ahead a 12) (block.lowestAddress i g) mem)
 
 -- an instruction at a that meets no stop and whose condition passes; an Other is never done
 unfoldable pub effectOf : Instruction → List ℕ → ℕ → ℕ → List ℕ → Effect
 effectOf (Instruction.Processing i) g f a mem = effect (processed i g f (readsAt i a)) mem
-effectOf (Instruction.Single i) g f a mem = pick (i .l) (loadEffect i g f (ahead a 8) mem) (storeEffect i g f a mem)
-effectOf (Instruction.Block i) g f a mem = pick (i .l) (blockLoadEffect i g f mem) (blockStoreEffect i g f (ahead a 12) mem)
+effectOf (Instruction.Single i) g f a mem = pick (i .l) (loadEffect i g f a mem) (storeEffect i g f a mem)
+effectOf (Instruction.Block i) g f a mem = pick (i .l) (blockLoadEffect i g f mem) (blockStoreEffect i g f a mem)
 effectOf (Instruction.Branch i) g f a mem = effect (branched i g f a) mem
 effectOf (Instruction.Other word) g f a mem = effect (out g f Next) mem
 

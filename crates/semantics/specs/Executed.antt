@@ -8,4 +8,4 @@ use Rattle.semantics.specs.Stops.{stopOf}
 use Rattle.semantics.specs.Perform.{Result, resultFor}
 
 unfoldable pub executed : Instruction → List ℕ → ℕ → ℕ → List ℕ → Board → Result
-executed i g f a mem board = resultFor (stopOf i g f a board) g f mem (ownSteps i g) (effectOf i g f a mem)
+executed i g f a mem board = resultFor (stopOf i g f a board) g f a mem (ownSteps i g) (effectOf i g f a mem)

@@ -8,12 +8,11 @@ use Rattle.word.specs.Reader.{readOf}
 use Rattle.condition.specs.Condition.{passes}
 use Rattle.memory.specs.declared.Fetched.{Fetched}
 use Rattle.memory.specs.declared.Fetched.the-variants.{Word, Blank}
-use Rattle.registers.specs.declared.Goes.{Goes}
 use Rattle.registers.specs.declared.Goes.the-variants.{Next}
 use Rattle.registers.specs.Registers.{out}
 use Rattle.semantics.specs.declared.Board.{Board}
 use Rattle.semantics.specs.declared.Performed.{Performed}
-use Rattle.semantics.specs.Effect.{Effect, effect, effectOf, ownSteps, refills}
+use Rattle.semantics.specs.Effect.{Effect, effect, effectOf, ownSteps, refills, nextAddress}
 use Rattle.semantics.specs.Stops.{stopOf}
 
 -- the stop it meets, or 0: 21 where there is no word, and a failed condition hides the others
@@ -40,16 +39,17 @@ pub record Result : Type 0 where
 abbrev pub resultOf : Performed → List ℕ → List ℕ → Result
 resultOf p g mem = record { performed = p; registers = g; memory = mem }
 
-abbrev pub performed : ℕ → ℕ → Goes → ℕ → Performed
-performed stop f t cycles = record { stop = stop; flags = f; goes = t; cycles = cycles }
+abbrev pub performed : ℕ → ℕ → ℕ → ℕ → Performed
+performed stop f next cycles = record { stop = stop; flags = f; next = next; cycles = cycles }
 
--- an effect in its duration: own steps, plus 2 if the counter was stored
-abbrev pub done : ℕ → Effect → Result
-done steps e = resultOf (performed 0 (e .out .flags) (e .out .goes) (steps + refills (e .out .goes))) (e .out .registers) (e .memory)
+-- an effect at a in its duration: own steps, plus 2 if the counter was stored
+abbrev pub done : ℕ → ℕ → Effect → Result
+done a steps e =
+    resultOf (performed 0 (e .out .flags) (nextAddress a (e .out .goes)) (steps + refills (e .out .goes))) (e .out .registers) (e .memory)
 
 -- a stop changes only the stop
-abbrev pub resultFor : ℕ → List ℕ → ℕ → List ℕ → ℕ → Effect → Result
-resultFor stop g f mem steps e = pick (eqb stop 0) (done steps e) (resultOf (performed stop f Next 0) g mem)
+abbrev pub resultFor : ℕ → List ℕ → ℕ → ℕ → List ℕ → ℕ → Effect → Result
+resultFor stop g f a mem steps e = pick (eqb stop 0) (done a steps e) (resultOf (performed stop f a 0) g mem)
 
 unfoldable pub performs : Fetched → List ℕ → ℕ → ℕ → List ℕ → Board → Result
-performs x g f a mem board = resultFor (stopFor x g f a board) g f mem (stepsFor x g f) (effectFor x g f a mem)
+performs x g f a mem board = resultFor (stopFor x g f a board) g f a mem (stepsFor x g f) (effectFor x g f a mem)

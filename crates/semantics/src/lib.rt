@@ -7,17 +7,15 @@ pub mod rules;
 pub mod span;
 pub mod stop;
 
-use registers::Goes;
-
 // What a core is built into; later requests add to it.
 pub struct Board {
     pub length: u32,
 }
 
-// What came of an instruction beside registers and memory: the stop met, or 0; the flags; where the counter goes; the cycles taken.
+// What came of an instruction beside registers and memory: the stop met, or 0; the flags; the address of the next instruction, after a stop its own; the cycles taken.
 pub struct Performed {
     pub stop: u32,
     pub flags: u32,
-    pub goes: Goes,
+    pub next: u32,
     pub cycles: u32,
 }

@@ -6,10 +6,10 @@ ghost use Prim.Native.Nat.{ℕ, _+_, _≤_};
 ghost use Rattle.word.specs.declared.Instruction.{Instruction};
 ghost use Rattle.word.specs.Reader.{readOf};
 ghost use Rattle.transfer.specs.Block.{count};
+ghost use Rattle.datapath.specs.Counter.{ahead};
 ghost use Rattle.semantics.specs.declared.Board.{Board};
 ghost use Rattle.memory.specs.declared.Fetched.{Fetched};
 ghost use Rattle.memory.specs.Memory.{wordAt};
-ghost use Rattle.registers.specs.declared.Goes.{Goes};
 ghost use Rattle.semantics.specs.Effect.{nextAddress, refills, loadEffect, storeEffect, blockLoadEffect, blockStoreEffect};
 ghost use Rattle.semantics.specs.Perform.{resultOf, performed, done, performs};
 ghost use Rattle.semantics.specs.Executed.{executed};
@@ -41,36 +41,43 @@ use word::Processing;
 use word::Single;
 use word::reader;
 
-fn refills(goes: Goes) -> u32
-    ensures { λ r. ⌜ r ≡ refills goes ⌝ }
+// Done in so many own steps, with the counter going on.
+fn went_on(a: u32, steps: u32, flags: u32) -> Performed
+    ensures { λ r. ⌜ r ≡ performed 0 flags (ahead a 4) steps ⌝ }
 {
-    match goes {
-        Goes::Next => 0,
-        Goes::To(_) => 2,
-    }
-}
-
-// Done in so many own steps.
-fn done(t: Turn, steps: u32) -> Performed
-    requires { ⌜ steps ≤ 18 ⌝ }
-    ensures { λ r. ⌜ r ≡ performed 0 (t .flags) (t .goes) (steps + refills (t .goes)) ⌝ }
-{
-    let goes = t.goes;
     Performed {
         stop: 0,
-        flags: t.flags,
-        goes,
-        cycles: steps + refills(goes),
+        flags,
+        next: ahead(a, 4),
+        cycles: steps,
     }
 }
 
-fn stopped(stop: u32, flags: u32) -> Performed
-    ensures { λ r. ⌜ r ≡ performed stop flags Goes.Next 0 ⌝ }
+// Done in so many own steps, plus 2 if the counter was stored.
+fn done(a: u32, steps: u32, t: Turn) -> Performed
+    requires { ⌜ steps ≤ 18 ⌝ }
+    ensures { λ r. ⌜ r ≡ performed 0 (t .flags) (nextAddress a (t .goes)) (steps + refills (t .goes)) ⌝ }
+{
+    let goes = t.goes;
+    match goes {
+        Goes::Next => went_on(a, steps, t.flags),
+        Goes::To(word) => Performed {
+            stop: 0,
+            flags: t.flags,
+            next: counter(word),
+            cycles: steps + 2,
+        },
+    }
+}
+
+// A stop changes only the stop.
+fn stopped(stop: u32, flags: u32, a: u32) -> Performed
+    ensures { λ r. ⌜ r ≡ performed stop flags a 0 ⌝ }
 {
     Performed {
         stop,
         flags,
-        goes: Goes::Next,
+        next: a,
         cycles: 0,
     }
 }
@@ -80,41 +87,36 @@ fn perform_processing(i: Processing, registers: &mut [u32; 15], flags: u32, a: u
 {
     let stop = processing_stop(i);
     if stop != 0 {
-        return stopped(stop, flags);
+        return stopped(stop, flags, a);
     }
     let o = i.operand;
     let t = process(i, registers, flags, reads_at(i, a));
     if shifts_by_register(o) {
-        done(t, 2)
+        done(a, 2, t)
     } else {
-        done(t, 1)
+        done(a, 1, t)
     }
 }
 
-fn load(i: Single, registers: &mut [u32; 15], memory: &[u8], flags: u32, pc: u32) -> Performed
-    ensures { λ r. ⌜ resultOf r (now (registers .exit)) (now (memory .entry)) ≡ done 3 (loadEffect i (now (registers .entry)) flags pc (now (memory .entry))) ⌝ }
+fn load(i: Single, registers: &mut [u32; 15], memory: &[u8], flags: u32, a: u32) -> Performed
+    ensures { λ r. ⌜ resultOf r (now (registers .exit)) (now (memory .entry)) ≡ done a 3 (loadEffect i (now (registers .entry)) flags a (now (memory .entry))) ⌝ }
 {
+    let pc = ahead(a, 8);
     let base = single::changed_base(i, registers, flags, pc);
     let value = single::loaded_value(i, memory, single::address(i, registers, flags, pc));
     single::write_base(i, registers, base);
-    done(arrive(registers, flags, i.rd, value), 3)
+    done(a, 3, arrive(registers, flags, i.rd, value))
 }
 
 fn store(i: Single, registers: &mut [u32; 15], memory: &mut [u8], flags: u32, a: u32) -> Performed
-    ensures { λ r. ⌜ resultOf r (now (registers .exit)) (now (memory .exit)) ≡ done 2 (storeEffect i (now (registers .entry)) flags a (now (memory .entry))) ⌝ }
+    ensures { λ r. ⌜ resultOf r (now (registers .exit)) (now (memory .exit)) ≡ done a 2 (storeEffect i (now (registers .entry)) flags a (now (memory .entry))) ⌝ }
 {
     let pc = ahead(a, 8);
     let base = single::changed_base(i, registers, flags, pc);
     let value = single::stored_value(registers, i.rd, flags, ahead(a, 12));
     single::store(i, memory, single::address(i, registers, flags, pc), value);
     single::write_base(i, registers, base);
-    done(
-        Turn {
-            flags,
-            goes: Goes::Next,
-        },
-        2,
-    )
+    went_on(a, 2, flags)
 }
 
 fn perform_single(
@@ -129,22 +131,26 @@ fn perform_single(
 {
     let stop = single_stop(i, registers, flags, a, board);
     if stop != 0 {
-        return stopped(stop, flags);
+        return stopped(stop, flags, a);
     }
     if i.l {
-        load(i, registers, memory, flags, ahead(a, 8))
+        load(i, registers, memory, flags, a)
     } else {
         store(i, registers, memory, flags, a)
     }
 }
 
-fn load_block(i: Block, registers: &mut [u32; 15], memory: &[u8], flags: u32) -> Performed
-    ensures { λ r. ⌜ resultOf r (now (registers .exit)) (now (memory .entry)) ≡ done (count i + 2) (blockLoadEffect i (now (registers .entry)) flags (now (memory .entry))) ⌝ }
+fn load_block(i: Block, registers: &mut [u32; 15], memory: &[u8], flags: u32, a: u32) -> Performed
+    ensures { λ r. ⌜ resultOf r (now (registers .exit)) (now (memory .entry)) ≡ done a (count i + 2) (blockLoadEffect i (now (registers .entry)) flags (now (memory .entry))) ⌝ }
 {
     let lowest = block::lowest_address(i, registers);
     block::write_base(i, registers, block::changed_base(i, registers));
     let n = count(i.list);
-    done(block::load(i.list, registers, flags, lowest, memory), n + 2)
+    done(
+        a,
+        n + 2,
+        block::load(i.list, registers, flags, lowest, memory),
+    )
 }
 
 fn store_block(
@@ -152,19 +158,13 @@ fn store_block(
     registers: &mut [u32; 15],
     memory: &mut [u8],
     flags: u32,
-    a12: u32,
+    a: u32,
 ) -> Performed
-    ensures { λ r. ⌜ resultOf r (now (registers .exit)) (now (memory .exit)) ≡ done (count i + 1) (blockStoreEffect i (now (registers .entry)) flags a12 (now (memory .entry))) ⌝ }
+    ensures { λ r. ⌜ resultOf r (now (registers .exit)) (now (memory .exit)) ≡ done a (count i + 1) (blockStoreEffect i (now (registers .entry)) flags a (now (memory .entry))) ⌝ }
 {
     let n = count(i.list);
-    block::store_all(i, registers, flags, a12, memory);
-    done(
-        Turn {
-            flags,
-            goes: Goes::Next,
-        },
-        n + 1,
-    )
+    block::store_all(i, registers, flags, ahead(a, 12), memory);
+    went_on(a, n + 1, flags)
 }
 
 fn perform_block(
@@ -179,19 +179,19 @@ fn perform_block(
 {
     let stop = block_stop(i, registers, flags, a, board);
     if stop != 0 {
-        return stopped(stop, flags);
+        return stopped(stop, flags, a);
     }
     if i.l {
-        load_block(i, registers, memory, flags)
+        load_block(i, registers, memory, flags, a)
     } else {
-        store_block(i, registers, memory, flags, ahead(a, 12))
+        store_block(i, registers, memory, flags, a)
     }
 }
 
 fn perform_branch(i: Branch, registers: &mut [u32; 15], flags: u32, a: u32) -> Performed
     ensures { λ r. ⌜ ((mem : List ℕ) (board : Board) → resultOf r (now (registers .exit)) mem ≡ executed (Instruction.Branch i) (now (registers .entry)) flags a mem board) ⌝ }
 {
-    done(branch(i, registers, flags, a), 1)
+    done(a, 1, branch(i, registers, flags, a))
 }
 
 // The reader of the class alone, so that it dissolves here.
@@ -209,7 +209,7 @@ fn execute(
         0 => {
             if bit(word, 4) {
                 if bit(word, 7) {
-                    stopped(22, flags)
+                    stopped(22, flags, a)
                 } else {
                     perform_processing(
                         reader::processing(word, reader::by_register(word)),
@@ -243,7 +243,7 @@ fn execute(
         ),
         3 => {
             if bit(word, 4) {
-                stopped(22, flags)
+                stopped(22, flags, a)
             } else {
                 perform_single(
                     reader::single(word, reader::by_amount(word)),
@@ -257,7 +257,7 @@ fn execute(
         }
         4 => perform_block(reader::block(word), registers, memory, flags, a, board),
         5 => perform_branch(reader::branch(word), registers, flags, a),
-        _ => stopped(22, flags),
+        _ => stopped(22, flags, a),
     }
 }
 
@@ -274,12 +274,7 @@ pub fn perform(
     if passes(field(word, 28, 4), flags) {
         execute(word, registers, memory, flags, a, board)
     } else {
-        Performed {
-            stop: 0,
-            flags,
-            goes: Goes::Next,
-            cycles: 1,
-        }
+        went_on(a, 1, flags)
     }
 }
 
@@ -295,16 +290,6 @@ pub fn perform_at(
 {
     match fetch(memory, a) {
         Fetched::Word(word) => perform(word, registers, memory, flags, a, board),
-        Fetched::Blank => stopped(21, flags),
-    }
-}
-
-// The address of the next instruction.
-pub fn next_address(a: u32, goes: Goes) -> u32
-    ensures { λ r. ⌜ r ≡ nextAddress a goes ⌝ }
-{
-    match goes {
-        Goes::Next => ahead(a, 4),
-        Goes::To(word) => counter(word),
+        Fetched::Blank => stopped(21, flags, a),
     }
 }

@@ -1,19 +1,13 @@
-use mathlib.Core.Path.{sym, _∙_}
-use Rattle.plain.proofs.Steps.{blank, word-done}
+use mathlib.Core.Path.{ap}
+use Rattle.semantics.specs.Perform.{Result}
+use Rattle.plain.specs.Machine.{after, performedAt, step}
 use borrow.Author.Needs.{needs}
 use Rattle.plain.proofs.step.advance.Statement.{statement}
 use Rattle.plain.proofs.step.advance.Tie as tie
 
 returns : tie.Need-returns
-returns c =
-    word-done _ _ _ _
-    (sym (c .before .before .before .before .before .before .before .before .before .fetch .ensures) ∙ c .before .before .before .before .before .before .before .word .given .1)
-    (c .before .before .before .perform .ensures)
-    (c .moved .ensures)
-
-returns-2 : tie.Need-returns-2
-returns-2 c = blank _ _ _ _ (sym (c .before .before .fetch .ensures) ∙ c .enum-told .given .1)
+unfolding step performedAt
+returns c = ap (λ (x : Result). after x (c .before .before .before .before .before .before .args .length)) (c .before .before .perform-at .ensures)
 
 pub advance-spec : {M : Type 1} → statement M
-advance-spec =
-    tie.close (tie.spec (λ c κs. search needs) (λ c. search needs) (λ c κs. search needs) (λ c κs. search needs) (λ c. search needs) (λ c. search needs) returns (λ c. search needs) returns-2)
+advance-spec = tie.close (tie.spec (λ c κs. search needs) (λ c. search needs) returns)

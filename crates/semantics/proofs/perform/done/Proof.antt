@@ -1,14 +1,14 @@
+use Rattle.semantics.proofs.Results.{went-on, went-to}
 use borrow.Author.Needs.{needs}
-use native.Mathlib.Omega.{arith}
-use Rattle.semantics.proofs.Durations.{refills-short}
 use Rattle.semantics.proofs.perform.done.Statement.{statement}
 use Rattle.semantics.proofs.perform.done.Tie as tie
 
-add-t5 : tie.Need-add-t5
-add-t5 c = record { fits = omega (arith, c .refills .ensures, refills-short (c .before .args .t .goes)) }
-
 returns : tie.Need-returns
-returns c = simp (c .refills .ensures)
+returns c = went-on _ _ (c .before .enum-told .given .1) (c .went-on .ensures)
+
+returns-2 : tie.Need-returns-2
+returns-2 c = went-to _ _ (c .before .before .goes .given .1) (c .counter .ensures)
 
 pub done-spec : {M : Type 1} → statement M
-done-spec = tie.close (tie.spec (λ c κs. search needs) add-t5 returns)
+done-spec =
+    tie.close (tie.spec (λ c. search needs) (λ c κs. search needs) (λ c. search needs) (λ c κs. search needs) (λ c. search needs) returns returns-2)

@@ -4,7 +4,8 @@ use Rattle.semantics.proofs.perform.load.Statement.{statement}
 use Rattle.semantics.proofs.perform.load.Tie as tie
 
 returns : tie.Need-returns
-returns c = load-done _ _ _ _ _ (c .before .before .before .before .before .before .before .before .changed-base .ensures) (c .before .before .before .before .before .before .address .ensures) (c .before .before .before .before .before .loaded-value .ensures) (c .before .before .before .write-base .ensures) (c .done .ensures) (c .before .arrive .ensures)
+returns c =
+    load-done _ _ _ _ _ (rw (c .before .before .before .before .before .before .before .before .before .before .ahead .ensures) at (c .before .before .before .before .before .before .before .before .changed-base .ensures)) (rw (c .before .before .before .before .before .before .before .before .before .before .ahead .ensures) at (c .before .before .before .before .before .before .address .ensures)) (c .before .before .before .before .before .loaded-value .ensures) (c .before .before .before .write-base .ensures) (c .done .ensures) (c .before .arrive .ensures)
 
 pub load-spec : {M : Type 1} → statement M
-load-spec = tie.close (tie.spec (λ c κs. search needs) (λ c κs. search needs) (λ c κs. search needs) (λ c κs. search needs) (λ c κs. search needs) (λ c κs. search needs) returns)
+load-spec = tie.close (tie.spec (λ c κs. search needs) (λ c κs. search needs) (λ c κs. search needs) (λ c κs. search needs) (λ c κs. search needs) (λ c κs. search needs) (λ c κs. search needs) returns)

@@ -8,7 +8,7 @@ returns : tie.Need-returns
 returns c = passing _ _ _ _ _ _ (rw (c .before .before .before .before .before .before .before .field .ensures) at (sym (c .before .before .before .before .before .before .passes .ensures) ∙ c .before .before .before .before .before .if1 .taken)) (c .before .before .execute .ensures)
 
 returns-2 : tie.Need-returns-2
-returns-2 c = failing _ _ _ _ _ _ (rw (c .before .before .field .ensures) at (sym (c .before .passes .ensures) ∙ c .if1 .left)) refl
+returns-2 c = failing _ _ _ _ _ _ (rw (c .before .before .before .field .ensures) at (sym (c .before .before .passes .ensures) ∙ c .before .if1 .left)) (c .went-on .ensures)
 
 pub perform-spec : {M : Type 1} → statement M
-perform-spec = tie.close (tie.spec (λ c κs. search needs) (λ c κs. search needs) (λ c κs. search needs) (λ c. search needs) returns returns-2)
+perform-spec = tie.close (tie.spec (λ c κs. search needs) (λ c κs. search needs) (λ c κs. search needs) (λ c κs. search needs) (λ c. search needs) returns returns-2)

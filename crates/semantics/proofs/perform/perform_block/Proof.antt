@@ -11,7 +11,7 @@ returns-2 : tie.Need-returns-2
 returns-2 c = executed-done _ _ _ _ _ _ (c .before .before .before .before .before .block-stop .ensures) (c .before .before .before .before .if1 .left) (c .load-block .ensures ∙ block-load _ _ _ _ _ (c .before .before .before .if2 .taken))
 
 returns-3 : tie.Need-returns-3
-returns-3 c = executed-done _ _ _ _ _ _ (c .before .before .before .before .before .before .before .before .block-stop .ensures) (c .before .before .before .before .before .before .before .if1 .left) (rw (c .before .before .before .ahead .ensures) at (c .before .before .store-block .ensures) ∙ block-store _ _ _ _ _ (c .before .before .before .before .before .before .if2 .left))
+returns-3 c = executed-done _ _ _ _ _ _ (c .before .before .before .before .before .before .before .block-stop .ensures) (c .before .before .before .before .before .before .if1 .left) (c .before .before .store-block .ensures ∙ block-store _ _ _ _ _ (c .before .before .before .before .before .if2 .left))
 
 pub perform-block-spec : {M : Type 1} → statement M
-perform-block-spec = tie.close (tie.spec (λ c κs. search needs) (λ c κs. search needs) returns (λ c κs. search needs) (λ c κs. search needs) (λ c κs. search needs) (λ c. search needs) returns-2 (λ c. search needs) returns-3)
+perform-block-spec = tie.close (tie.spec (λ c κs. search needs) (λ c κs. search needs) returns (λ c κs. search needs) (λ c κs. search needs) (λ c. search needs) returns-2 (λ c. search needs) returns-3)

@@ -6,8 +6,7 @@ use Rattle.semantics.proofs.perform.store.Tie as tie
 
 returns : tie.Need-returns
 returns c =
-    store-done _ _ _ _ _ (rw (c .before .before .before .before .before .before .before .before .before .before .before .before .before .before .ahead .ensures) at (c .before .before .before .before .before .before .before .before .before .before .before .before .changed-base .ensures)) (rw (c .before .before .before .before .before .before .before .before .before .before .before .before .before .before .ahead .ensures) at (c .before .before .before .before .before .before .address .ensures))
-    (rw (c .before .before .before .before .before .before .before .before .before .before .ahead2 .ensures) at (c .before .before .before .before .before .before .before .before .before .stored-value .ensures)) (c .before .before .before .before .before .store .ensures) (c .before .write-base .ensures) (c .done .ensures)
+    store-done _ _ _ _ _ (rw (c .before .before .before .before .before .before .before .before .before .before .before .before .before .before .ahead .ensures) at (c .before .before .before .before .before .before .before .before .before .before .before .before .changed-base .ensures)) (rw (c .before .before .before .before .before .before .before .before .before .before .before .before .before .before .ahead .ensures) at (c .before .before .before .before .before .before .address .ensures)) (rw (c .before .before .before .before .before .before .before .before .before .before .ahead2 .ensures) at (c .before .before .before .before .before .before .before .before .before .stored-value .ensures)) (c .before .before .before .before .before .store .ensures) (c .before .write-base .ensures) (c .went-on .ensures)
 
 pub store-spec : {M : Type 1} → statement M
 store-spec = tie.close (tie.spec (λ c κs. search needs) (λ c κs. search needs) (λ c κs. search needs) (λ c κs. search needs) (λ c κs. search needs) (λ c κs. search needs) (λ c κs. search needs) (λ c κs. search needs) (λ c. search needs) returns)
