@@ -1,20 +1,23 @@
 // The buffer that holds a case's memory. It is longer than any memory that a start takes, so that a longer one can be lent.
 ghost use mathlib.Core.Path.{_≡_};
 ghost use Prim.Native.Nat.{_≤_};
-ghost use lib.ListN.{length};
+ghost use lib.ListN.{length, replicate};
+ghost use Rattle.tokens.specs.Buffer.{room, within};
 use crate::token;
 use memory::write_word;
 
-// Its length is said for the sake of lending it as a slice.
+// Its length is said apart for the sake of lending it as a slice.
 pub fn zeros() -> [u8; 65544]
-    ensures { λ r. ⌜ 65544 ≡ length r ⌝ }
+    ensures { λ r. ⌜ r ≡ replicate room 0 ⌝ }
+    ensures { λ r. ⌜ room ≡ length r ⌝ }
 {
     [0; 65544]
 }
 
 // No more than the buffer has.
 pub fn bytes(n: u32) -> usize
-    ensures { λ r. ⌜ r ≤ 65544 ⌝ }
+    ensures { λ r. ⌜ r ≡ within n ⌝ }
+    ensures { λ r. ⌜ r ≤ room ⌝ }
 {
     if n < 65544 { n as usize } else { 65544 }
 }

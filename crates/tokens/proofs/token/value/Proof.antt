@@ -1,25 +1,11 @@
--- `value` is safe and ends: the index stays below the length. Assumes nothing.
-use Prim.Native.Nat.{_≤_, _-_}
 use borrow.Author.Needs.{needs}
+use Rattle.tokens.specs.Token.{valueOf}
 use Rattle.tokens.proofs.token.value.Statement.{statement}
 use Rattle.tokens.proofs.token.value.Tie as tie
 
-abbrev Inv-loop : tie.InvT-loop
-Inv-loop text word₀ i₀ word i = i ≤ 8
-
-abbrev μ-loop : tie.MeasureT-loop
-μ-loop text word₀ i₀ word i = 8 - i
+returns : tie.Need-returns
+unfolding valueOf
+returns c = simp (c .before .before .before .before .before .before .before .before .before .byte .ensures .0, c .before .before .before .before .before .before .byte2 .ensures .0, c .before .before .before .byte3 .ensures .0, c .byte4 .ensures .0)
 
 pub value-spec : {M : Type 1} → statement M
-value-spec =
-    tie.close
-    (tie.spec
-    Inv-loop
-    μ-loop
-    (λ c. search needs)
-    (λ c. search needs)
-    (λ c κs. search needs)
-    (λ c. search needs)
-    (λ c. search needs)
-    (λ c. search needs)
-    (λ c. search needs))
+value-spec = tie.close (tie.spec (λ c. search needs) (λ c. search needs) (λ c κs. search needs) (λ c. search needs) (λ c. search needs) (λ c. search needs) (λ c κs. search needs) (λ c. search needs) (λ c. search needs) (λ c. search needs) (λ c. search needs) (λ c κs. search needs) (λ c. search needs) (λ c. search needs) (λ c. search needs) (λ c. search needs) (λ c κs. search needs) (λ c. search needs) returns)
