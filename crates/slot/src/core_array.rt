@@ -1,6 +1,7 @@
 // A core as an array of 33 words, and back.
 ghost use mathlib.Core.Path.{_≡_};
 ghost use Rattle.slot.specs.CoreArray.{low, high, joined, wordIn, validity, fetchedOf, standsForFetched, phaseNumber, phaseOf, controlOf, packed, unpacked, standsForCore};
+use crate::registers_array::registers_of;
 use memory::Fetched;
 use pipeline::Control;
 use pipeline::Core;
@@ -154,23 +155,7 @@ fn control_of(words: &[u32; 33]) -> Control
 pub fn unpacked(words: &[u32; 33]) -> Core
     ensures { λ r. ⌜ r ≡ unpacked (now (words .entry)) ⌝ }
 {
-    let registers = [
-        words[0],
-        words[1],
-        words[2],
-        words[3],
-        words[4],
-        words[5],
-        words[6],
-        words[7],
-        words[8],
-        words[9],
-        words[10],
-        words[11],
-        words[12],
-        words[13],
-        words[14],
-    ];
+    let registers = registers_of(words);
     let control = control_of(words);
     Core { registers, control }
 }

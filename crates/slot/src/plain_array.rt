@@ -1,6 +1,7 @@
 // A plain machine's record as an array of 19 words, and back.
 ghost use mathlib.Core.Path.{_≡_};
 ghost use Rattle.slot.specs.PlainArray.{packed, unpacked};
+use crate::registers_array::registers_of;
 use plain::Plain;
 
 pub fn packed(p: Plain) -> [u32; 19]
@@ -33,23 +34,7 @@ pub fn packed(p: Plain) -> [u32; 19]
 pub fn unpacked(words: &[u32; 19]) -> Plain
     ensures { λ r. ⌜ r ≡ unpacked (now (words .entry)) ⌝ }
 {
-    let registers = [
-        words[0],
-        words[1],
-        words[2],
-        words[3],
-        words[4],
-        words[5],
-        words[6],
-        words[7],
-        words[8],
-        words[9],
-        words[10],
-        words[11],
-        words[12],
-        words[13],
-        words[14],
-    ];
+    let registers = registers_of(words);
     Plain {
         registers,
         a: words[15],

@@ -1,4 +1,3 @@
-use mathlib.Core.Path.{refl}
 use Rattle.slot.specs.PlainArray.{unpacked}
 use borrow.Author.Needs.{needs}
 use Rattle.slot.proofs.plain_array.unpacked.Statement.{statement}
@@ -6,8 +5,7 @@ use Rattle.slot.proofs.plain_array.unpacked.Tie as tie
 
 returns : tie.Need-returns
 unfolding unpacked
-returns c = refl
+returns c = simp (c .before .before .before .before .registers-of .ensures)
 
 pub unpacked-spec : {M : Type 1} → statement M
-unpacked-spec =
-    tie.close (tie.spec (λ c. search needs) (λ c. search needs) (λ c. search needs) (λ c. search needs) (λ c. search needs) (λ c. search needs) (λ c. search needs) (λ c. search needs) (λ c. search needs) (λ c. search needs) (λ c. search needs) (λ c. search needs) (λ c. search needs) (λ c. search needs) (λ c. search needs) (λ c. search needs) (λ c. search needs) (λ c. search needs) (λ c. search needs) returns)
+unpacked-spec = tie.close (tie.spec (λ c κs. search needs) (λ c. search needs) (λ c. search needs) (λ c. search needs) (λ c. search needs) returns)
