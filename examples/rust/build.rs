@@ -1,12 +1,18 @@
-// Links the archive that SLOT_ARCHIVE names: SLOT_ARCHIVE=/path/libslot.a cargo run
-use std::{env, path::PathBuf};
+// Links the archive that `rt staticlib slot` writes, or the one that SLOT_ARCHIVE names.
+use std::{env, path::PathBuf, process};
 
 fn main() {
     println!("cargo:rerun-if-env-changed=SLOT_ARCHIVE");
-    let archive = env::var("SLOT_ARCHIVE").expect("SLOT_ARCHIVE names libslot.a");
-    let archive = PathBuf::from(archive).canonicalize().expect("SLOT_ARCHIVE is there");
-    let folder = archive.parent().expect("an archive has a folder");
+    let archive = match env::var_os("SLOT_ARCHIVE") {
+        Some(named) => PathBuf::from(named),
+        None => PathBuf::from("../../target/staticlib/libslot.a"),
+    };
+    let Ok(archive) = archive.canonicalize() else {
+        println!("cargo:warning=there is no {}: run `rt staticlib slot` first", archive.display());
+        process::exit(1);
+    };
     println!("cargo:rerun-if-changed={}", archive.display());
+    let folder = archive.parent().expect("a file has a folder");
     println!("cargo:rustc-link-search=native={}", folder.display());
     println!("cargo:rustc-link-lib=static=slot");
 }
