@@ -1,5 +1,4 @@
 pub mod OwnSteps
-pub mod Reading
 pub mod Closing
 pub mod Refusals
 pub mod Turns

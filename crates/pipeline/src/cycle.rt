@@ -24,54 +24,25 @@ use crate::steps::later_block;
 use crate::steps::later_processing;
 use crate::steps::later_single;
 use crate::steps::still;
-use bits::bit;
 use bits::field;
 use condition::passes;
 use datapath::counter::ahead;
 use datapath::counter::counter;
 use memory::Fetched;
 use memory::fetch;
+use word::Instruction;
 use word::reader;
 
-// Step 1 of a word whose condition passes. The reader of the class alone, so that it dissolves here.
+// Step 1 of a word whose condition passes.
 fn first(word: u32, registers: &mut [u32; 15], flags: u32, pc: u32) -> Step
     ensures { λ r. ⌜ ((mem : List ℕ) → stepped r (now (registers .exit)) mem ≡ first (readOf word) (now (registers .entry)) flags pc mem) ⌝ }
 {
-    match reader::class(word) {
-        0 => {
-            if bit(word, 4) {
-                if bit(word, 7) {
-                    still(flags, After::Done(1))
-                } else {
-                    let i = reader::processing(word, reader::by_register(word));
-                    first_processing(i, registers, flags, pc)
-                }
-            } else {
-                let i = reader::processing(word, reader::by_amount(word));
-                first_processing(i, registers, flags, pc)
-            }
-        }
-        1 => {
-            let i = reader::processing(word, reader::constant(word));
-            first_processing(i, registers, flags, pc)
-        }
-        2 => first_single(
-            reader::single(word, reader::constant(word)),
-            registers,
-            flags,
-            pc,
-        ),
-        3 => {
-            if bit(word, 4) {
-                still(flags, After::Done(1))
-            } else {
-                let i = reader::single(word, reader::by_amount(word));
-                first_single(i, registers, flags, pc)
-            }
-        }
-        4 => first_block(reader::block(word), registers, flags, pc),
-        5 => first_branch(reader::branch(word), registers, flags, pc),
-        _ => still(flags, After::Done(1)),
+    match reader::read(word) {
+        Instruction::Processing(i) => first_processing(i, registers, flags, pc),
+        Instruction::Single(i) => first_single(i, registers, flags, pc),
+        Instruction::Block(i) => first_block(i, registers, flags, pc),
+        Instruction::Branch(i) => first_branch(i, registers, flags, pc),
+        Instruction::Other(_) => still(flags, After::Done(1)),
     }
 }
 
@@ -87,39 +58,12 @@ fn later(
 ) -> Step
     ensures { λ r. ⌜ stepped r (now (registers .exit)) (now (memory .exit)) ≡ later (readOf word) k (now (registers .entry)) flags pc (latched l) (now (memory .entry)) ⌝ }
 {
-    match reader::class(word) {
-        0 => {
-            if bit(word, 4) {
-                if bit(word, 7) {
-                    still(flags, After::Done(1))
-                } else {
-                    let i = reader::processing(word, reader::by_register(word));
-                    later_processing(i, registers, flags, pc)
-                }
-            } else {
-                let i = reader::processing(word, reader::by_amount(word));
-                later_processing(i, registers, flags, pc)
-            }
-        }
-        1 => {
-            let i = reader::processing(word, reader::constant(word));
-            later_processing(i, registers, flags, pc)
-        }
-        2 => {
-            let i = reader::single(word, reader::constant(word));
-            later_single(i, k, registers, memory, flags, l)
-        }
-        3 => {
-            if bit(word, 4) {
-                still(flags, After::Done(1))
-            } else {
-                let i = reader::single(word, reader::by_amount(word));
-                later_single(i, k, registers, memory, flags, l)
-            }
-        }
-        4 => later_block(reader::block(word), k, registers, memory, flags, pc, l),
-        5 => still(flags, After::Done(1)),
-        _ => still(flags, After::Done(1)),
+    match reader::read(word) {
+        Instruction::Processing(i) => later_processing(i, registers, flags, pc),
+        Instruction::Single(i) => later_single(i, k, registers, memory, flags, l),
+        Instruction::Block(i) => later_block(i, k, registers, memory, flags, pc, l),
+        Instruction::Branch(_) => still(flags, After::Done(1)),
+        Instruction::Other(_) => still(flags, After::Done(1)),
     }
 }
 
