@@ -13,17 +13,18 @@ use Rattle.condition.specs.Condition.{passes}
 use Rattle.datapath.specs.Counter.{counter}
 use Rattle.memory.specs.declared.Fetched.{Fetched}
 use Rattle.memory.specs.declared.Fetched.the-variants.{Word, Blank}
-use Rattle.pipeline.specs.declared.Phase.{Phase}
-use Rattle.pipeline.specs.declared.Phase.the-variants.{Step1, Refill1, Refill2, Later}
-use Rattle.pipeline.specs.declared.After.the-variants.{More, Done, Jump}
-use Rattle.pipeline.specs.declared.After.{After}
+use Rattle.steps.specs.declared.Phase.{Phase}
+use Rattle.steps.specs.declared.Phase.the-variants.{Step1, Refill1, Refill2, Later}
+use Rattle.steps.specs.declared.After.the-variants.{More, Done, Jump}
+use Rattle.steps.specs.declared.After.{After}
 use Rattle.pipeline.specs.declared.Control.{Control}
-use Rattle.pipeline.specs.declared.Step.{Step}
+use Rattle.steps.specs.declared.Step.{Step}
 use Rattle.pipeline.specs.declared.Piped.{Piped}
-use Rattle.pipeline.specs.Machine.{Machine, machine, Pipe, pipe, pipeOf, Latches, latches, latchesOf, control}
-use Rattle.pipeline.specs.Steps.{Own, still, first, later}
+use Rattle.pipeline.specs.Machine.{Machine, machine, Pipe, pipe, pipeOf, latchesOf, control}
+use Rattle.steps.specs.Steps.{Latches, latches, Own, still, first, later}
 use Rattle.pipeline.specs.Cycle.{retires, ownOf, fetches, turned, phaseAfter, retiredBy, close, cycle}
-use Rattle.pipeline.specs.View.{stepped, piped}
+use Rattle.pipeline.specs.View.{piped}
+use Rattle.steps.specs.View.{stepped}
 
 -- an instruction that is read from a word
 pub first-read : {i j : Instruction} (g : List ℕ) (f pc : ℕ) (mem : List ℕ) {r : Own} → i ≡ j → r ≡ first i g f pc mem → r ≡ first j g f pc mem

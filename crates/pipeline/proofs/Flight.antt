@@ -14,11 +14,11 @@ use Rattle.registers.specs.declared.Goes.{Goes}
 use Rattle.registers.specs.declared.Goes.the-variants.{Next, To}
 use Rattle.semantics.specs.Effect.{ownSteps, refills, nextAddress}
 use Rattle.plain.specs.Machine as plain
-use Rattle.pipeline.specs.declared.Phase.{Phase}
-use Rattle.pipeline.specs.declared.Phase.the-variants.{Step1, Refill1, Refill2, Later}
-use Rattle.pipeline.specs.declared.After.the-variants.{Done}
-use Rattle.pipeline.specs.Machine.{Machine, machine, Pipe, pipe, Latches, control}
-use Rattle.pipeline.specs.Steps.{idle, ends}
+use Rattle.steps.specs.declared.Phase.{Phase}
+use Rattle.steps.specs.declared.Phase.the-variants.{Step1, Refill1, Refill2, Later}
+use Rattle.steps.specs.declared.After.the-variants.{Done}
+use Rattle.pipeline.specs.Machine.{Machine, machine, Pipe, pipe, control}
+use Rattle.steps.specs.Steps.{Latches, idle, ends}
 use Rattle.pipeline.specs.Cycle.{cycle, ownOf, turned, phaseAfter, retiredBy}
 use Rattle.pipeline.specs.Term3.{boundary, lead}
 

@@ -36,10 +36,10 @@ use Rattle.semantics.specs.Effect.{Effect, effect, effectOf, loadEffect, storeE
 use Rattle.semantics.specs.Stops.{stopOf, movedStop, ruleBroken, firstBroken, blockRules, is15, movedBy, storedBy, span, outside, hits}
 use Rattle.semantics.specs.Perform.{stopFor, effectFor, stepsFor}
 use Rattle.semantics.proofs.Spans.{last-decides}
-use Rattle.pipeline.specs.declared.Phase.the-variants.{Step1, Later}
-use Rattle.pipeline.specs.declared.After.the-variants.{More, Done}
-use Rattle.pipeline.specs.Machine.{Machine, pipe, Latches, latches, behind}
-use Rattle.pipeline.specs.Steps.{Own, own, idle, first, later, loadLater, storeLater, loadStep, blockLoadLater, storeStep, blockStoreLater, onward}
+use Rattle.steps.specs.declared.Phase.the-variants.{Step1, Later}
+use Rattle.steps.specs.declared.After.the-variants.{More, Done}
+use Rattle.pipeline.specs.Machine.{Machine, pipe}
+use Rattle.steps.specs.Steps.{Latches, latches, behind, Own, own, idle, first, later, loadLater, storeLater, loadStep, blockLoadLater, storeStep, blockStoreLater, onward}
 use Rattle.pipeline.specs.Cycle.{cycle, ownOf}
 use Rattle.pipeline.specs.Term3.{boundary, lead}
 use Rattle.pipeline.proofs.Kept.{or-false, single-kept, stores-all-kept}

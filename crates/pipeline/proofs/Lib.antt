@@ -1,4 +1,3 @@
-pub mod OwnSteps
 pub mod Closing
 pub mod Refusals
 pub mod Turns

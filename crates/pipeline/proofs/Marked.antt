@@ -17,8 +17,7 @@ use Rattle.semantics.specs.Effect as effect
 use Rattle.semantics.specs.Stops as stops
 use Rattle.semantics.specs.Perform as perform
 use Rattle.plain.specs.Numbers as plain
-use Rattle.pipeline.specs.Machine.{behind}
-use Rattle.pipeline.specs.Steps.{first, later}
+use Rattle.steps.specs.Steps.{behind, first, later}
 use Rattle.pipeline.specs.Cycle.{ownOf, cycle}
 use Rattle.pipeline.specs.Numbers.{stopFound, bad, refusal}
 use Rattle.pipeline.specs.Run.{start, runFrom, run}

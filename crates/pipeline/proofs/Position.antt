@@ -12,8 +12,8 @@ use Rattle.datapath.specs.Counter.{ahead}
 use Rattle.semantics.specs.Perform.{stopFor}
 use Rattle.plain.specs.Machine as plain
 use Rattle.plain.specs.Trace.{trace, stopMet, duration, durations}
-use Rattle.pipeline.specs.declared.Phase.{Phase}
-use Rattle.pipeline.specs.declared.Phase.the-variants.{Step1, Refill1, Refill2, Later}
+use Rattle.steps.specs.declared.Phase.{Phase}
+use Rattle.steps.specs.declared.Phase.the-variants.{Step1, Refill1, Refill2, Later}
 use Rattle.pipeline.specs.Machine.{Machine}
 use Rattle.pipeline.specs.Cycle.{cycle, ownOf}
 use Rattle.pipeline.specs.Numbers.{atStep1, stopFound}

@@ -19,10 +19,11 @@ use Rattle.semantics.specs.declared.Board.{Board}
 use Rattle.semantics.specs.Stops.{stopOf, ruleBroken, movedStop, movedBy, storedBy}
 use Rattle.semantics.specs.Perform.{stopFor}
 use Rattle.plain.specs.Numbers.{badLength, badEntry, badFlags, badBudget, isCounter, isStop, startAnswer}
-use Rattle.pipeline.specs.declared.Phase.{Phase}
-use Rattle.pipeline.specs.declared.Phase.the-variants.{Step1}
+use Rattle.steps.specs.declared.Phase.{Phase}
+use Rattle.steps.specs.declared.Phase.the-variants.{Step1}
 use Rattle.pipeline.specs.declared.Control.{Control}
-use Rattle.pipeline.specs.Machine.{Machine, machine, behind}
+use Rattle.pipeline.specs.Machine.{Machine, machine}
+use Rattle.steps.specs.Steps.{behind}
 use Rattle.pipeline.specs.Numbers.{atStep1, stopFound, badPhase, heldAway, mostCycles, bad, refusal}
 
 -- ---- a stop

@@ -8,11 +8,12 @@ use native.Mathlib.Nat.{add-assoc}
 use native.Mathlib.Omega.{arith}
 use Rattle.memory.specs.Memory.{wordAt}
 use Rattle.datapath.specs.Counter.{ahead}
-use Rattle.pipeline.specs.declared.Phase.{Phase}
-use Rattle.pipeline.specs.declared.Phase.the-variants.{Step1, Refill1, Refill2, Later}
+use Rattle.steps.specs.declared.Phase.{Phase}
+use Rattle.steps.specs.declared.Phase.the-variants.{Step1, Refill1, Refill2, Later}
 use Rattle.pipeline.specs.declared.Control.{Control}
 use Rattle.pipeline.specs.declared.Between.{Between}
-use Rattle.pipeline.specs.Machine.{Machine, machine, behind}
+use Rattle.pipeline.specs.Machine.{Machine, machine}
+use Rattle.steps.specs.Steps.{behind}
 use Rattle.pipeline.specs.Numbers.{atStep1, stopFound}
 use Rattle.pipeline.specs.Cycle.{cycle}
 use Rattle.pipeline.specs.Run.{Ran, ran, oneMore, holding, runFrom}

@@ -37,13 +37,13 @@ use Rattle.semantics.specs.Branch.{branched}
 use Rattle.semantics.specs.Effect.{ownSteps}
 use Rattle.semantics.specs.Stops.{stopOf, ruleBroken, movedBy, span, outside}
 use Rattle.semantics.specs.Perform.{stopFor}
-use Rattle.pipeline.specs.declared.Phase.{Phase}
-use Rattle.pipeline.specs.declared.Phase.the-variants.{Step1, Refill1, Refill2, Later}
-use Rattle.pipeline.specs.declared.After.{After}
-use Rattle.pipeline.specs.declared.After.the-variants.{More, Done, Jump}
+use Rattle.steps.specs.declared.Phase.{Phase}
+use Rattle.steps.specs.declared.Phase.the-variants.{Step1, Refill1, Refill2, Later}
+use Rattle.steps.specs.declared.After.{After}
+use Rattle.steps.specs.declared.After.the-variants.{More, Done, Jump}
 use Rattle.pipeline.specs.declared.Control.{Control}
-use Rattle.pipeline.specs.Machine.{Machine, Pipe, pipeOf, Latches, latchesOf, behind}
-use Rattle.pipeline.specs.Steps.{Own, last, ends, still, onward, first, later, loadLater, storeLater, loadStep, blockLoadLater, storeStep, blockStoreLater}
+use Rattle.pipeline.specs.Machine.{Machine, Pipe, pipeOf, latchesOf}
+use Rattle.steps.specs.Steps.{Latches, behind, Own, last, ends, still, onward, first, later, loadLater, storeLater, loadStep, blockLoadLater, storeStep, blockStoreLater}
 use Rattle.pipeline.specs.Cycle.{cycle, ownOf, fetches, turned, phaseAfter, retiredBy}
 use Rattle.pipeline.specs.Numbers.{atStep1, stopFound, leftToMove, badWordStep, badStep, badPhase}
 use Rattle.pipeline.proofs.Kept.{or-false}

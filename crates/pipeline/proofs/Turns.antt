@@ -8,8 +8,8 @@ use native.Mathlib.Omega.{arith}
 use lib.ListN.{length}
 use Rattle.bits.proofs.Tests.{zero-by, nonzero-by}
 use Rattle.plain.specs.Numbers.{startAnswer}
-use Rattle.pipeline.specs.declared.After.{After}
-use Rattle.pipeline.specs.declared.After.the-variants.{More, Done, Jump}
+use Rattle.steps.specs.declared.After.{After}
+use Rattle.steps.specs.declared.After.the-variants.{More, Done, Jump}
 use Rattle.pipeline.specs.declared.Core.{Core}
 use Rattle.pipeline.specs.declared.Control.{Control}
 use Rattle.pipeline.specs.Machine.{Machine, latchesOf}

@@ -9,13 +9,13 @@ use Rattle.datapath.specs.Counter.{ahead, counter}
 use Rattle.memory.specs.Memory.{wordAt}
 use Rattle.memory.specs.declared.Fetched.{Fetched}
 use Rattle.memory.specs.declared.Fetched.the-variants.{Word, Blank}
-use Rattle.pipeline.specs.declared.Phase.{Phase}
-use Rattle.pipeline.specs.declared.Phase.the-variants.{Step1, Refill1, Refill2, Later}
-use Rattle.pipeline.specs.declared.After.{After}
-use Rattle.pipeline.specs.declared.After.the-variants.{More, Done, Jump}
+use Rattle.steps.specs.declared.Phase.{Phase}
+use Rattle.steps.specs.declared.Phase.the-variants.{Step1, Refill1, Refill2, Later}
+use Rattle.steps.specs.declared.After.{After}
+use Rattle.steps.specs.declared.After.the-variants.{More, Done, Jump}
 use Rattle.pipeline.specs.declared.Control.{Control}
-use Rattle.pipeline.specs.Machine.{Machine, machine, Pipe, pipe, pipeOf, Latches, latchesOf, control}
-use Rattle.pipeline.specs.Steps.{Own, still, first, later}
+use Rattle.pipeline.specs.Machine.{Machine, machine, Pipe, pipe, pipeOf, latchesOf, control}
+use Rattle.steps.specs.Steps.{Latches, Own, still, first, later}
 
 -- a refill with IX blank is the start's and retires nothing
 abbrev pub retires : Fetched → ℕ

@@ -1,5 +1,4 @@
 pub mod Machine
-pub mod Steps
 pub mod Cycle
 pub mod Numbers
 pub mod Run

@@ -1,8 +1,9 @@
 -- The core with the memory that it is lent, in groups: registers and flags, pipe, latches, counts.
-use Prim.Native.Nat.{ℕ, _+_, _-_, _%_, _^_}
+use Prim.Native.Nat.{ℕ}
 use mathlib.Core.List.{List}
 use Rattle.memory.specs.declared.Fetched.{Fetched}
-use Rattle.pipeline.specs.declared.Phase.{Phase}
+use Rattle.steps.specs.declared.Phase.{Phase}
+use Rattle.steps.specs.Steps.{Latches, latches}
 use Rattle.pipeline.specs.declared.Control.{Control}
 
 pub record Machine : Type 0 where
@@ -26,15 +27,6 @@ pipe pc ir1 ir2 ix = record { pc = pc; ir1 = ir1; ir2 = ir2; ix = ix }
 abbrev pub pipeOf : Control → Pipe
 pipeOf c = pipe (c .pc) (c .ir1) (c .ir2) (c .ix)
 
--- the next address to be moved, the data latch, and the written-back base; one that no step left needs is 0
-pub record Latches : Type 0 where
-  pub address : ℕ
-  pub datum : ℕ
-  pub base : ℕ
-
-abbrev pub latches : ℕ → ℕ → ℕ → Latches
-latches a d b = record { address = a; datum = d; base = b }
-
 abbrev pub latchesOf : Control → Latches
 latchesOf c = latches (c .address) (c .datum) (c .base)
 
@@ -55,7 +47,3 @@ control f p ph l cycles retired stop length = record {
   stop = stop;
   length = length;
 }
-
--- the address of the instruction whose step 1 sees pc: PC-8
-unfoldable pub behind : ℕ → ℕ
-behind pc = (pc + (2 ^ 26 - 8)) % 2 ^ 26

@@ -17,10 +17,11 @@ use Rattle.semantics.specs.Effect.{ownSteps}
 use Rattle.semantics.specs.Stops.{ruleBroken, span, outside}
 use Rattle.semantics.specs.Perform.{stopFor}
 use Rattle.plain.specs.Numbers.{badLength, badFlags, badBudget, isCounter, isStop}
-use Rattle.pipeline.specs.declared.Phase.{Phase}
-use Rattle.pipeline.specs.declared.Phase.the-variants.{Step1, Refill1, Refill2, Later}
+use Rattle.steps.specs.declared.Phase.{Phase}
+use Rattle.steps.specs.declared.Phase.the-variants.{Step1, Refill1, Refill2, Later}
 use Rattle.pipeline.specs.declared.Control.{Control}
-use Rattle.pipeline.specs.Machine.{Machine, behind}
+use Rattle.pipeline.specs.Machine.{Machine}
+use Rattle.steps.specs.Steps.{behind}
 
 -- a stop is found before step 1 and nowhere else
 abbrev pub atStep1 : Phase → ℕ → ℕ

@@ -6,11 +6,11 @@ use lib.ListN.{length, replicate}
 use Rattle.bits.specs.Choice.{pick}
 use Rattle.memory.specs.declared.Fetched.the-variants.{Blank}
 use Rattle.plain.specs.Numbers.{startAnswer}
-use Rattle.pipeline.specs.declared.Phase.the-variants.{Step1, Refill1}
+use Rattle.steps.specs.declared.Phase.the-variants.{Step1, Refill1}
 use Rattle.pipeline.specs.declared.Control.{Control}
 use Rattle.pipeline.specs.declared.Core.{Core}
 use Rattle.pipeline.specs.Machine.{Machine, machine, pipe, pipeOf, latchesOf, control}
-use Rattle.pipeline.specs.Steps.{idle}
+use Rattle.steps.specs.Steps.{idle}
 use Rattle.pipeline.specs.Cycle.{cycle}
 use Rattle.pipeline.specs.Numbers.{stopFound, refusal}
 

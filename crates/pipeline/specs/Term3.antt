@@ -14,10 +14,10 @@ use Rattle.plain.specs.Machine as plain
 use Rattle.plain.specs.Numbers.{startAnswer}
 use Rattle.plain.specs.Run.{begun}
 use Rattle.plain.specs.Trace.{trace, stopMet, durations}
-use Rattle.pipeline.specs.declared.Phase.{Phase}
-use Rattle.pipeline.specs.declared.Phase.the-variants.{Step1, Refill1, Refill2, Later}
+use Rattle.steps.specs.declared.Phase.{Phase}
+use Rattle.steps.specs.declared.Phase.the-variants.{Step1, Refill1, Refill2, Later}
 use Rattle.pipeline.specs.Machine.{Machine, machine, pipe, control}
-use Rattle.pipeline.specs.Steps.{idle}
+use Rattle.steps.specs.Steps.{idle}
 use Rattle.pipeline.specs.Numbers.{mostCycles}
 use Rattle.pipeline.specs.Cycle.{cycle}
 use Rattle.pipeline.specs.Run.{freshControl, holding, Ran, run}

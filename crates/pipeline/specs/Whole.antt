@@ -7,11 +7,12 @@ use Rattle.datapath.specs.Counter.{ahead}
 use Rattle.memory.specs.Memory.{wordAt}
 use Rattle.semantics.specs.declared.Performed.{Performed}
 use Rattle.plain.specs.Machine as plain
-use Rattle.pipeline.specs.declared.Phase.{Phase}
-use Rattle.pipeline.specs.declared.Phase.the-variants.{Step1, Refill1, Refill2, Later}
+use Rattle.steps.specs.declared.Phase.{Phase}
+use Rattle.steps.specs.declared.Phase.the-variants.{Step1, Refill1, Refill2, Later}
 use Rattle.pipeline.specs.declared.Control.{Control}
 use Rattle.pipeline.specs.declared.Between.{Between}
-use Rattle.pipeline.specs.Machine.{Machine, behind}
+use Rattle.pipeline.specs.Machine.{Machine}
+use Rattle.steps.specs.Steps.{behind}
 use Rattle.pipeline.specs.Run.{Ran, ran, runFrom}
 use Rattle.pipeline.specs.Term3.{boundary}
 

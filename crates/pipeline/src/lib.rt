@@ -3,24 +3,9 @@ mod cycle;
 mod numbers;
 mod quick;
 mod run;
-mod steps;
 
 use memory::Fetched;
-
-// What the next cycle does. Steps 2 and later are counted from 0.
-pub enum Phase {
-    Step1,
-    Refill1,
-    Refill2,
-    Later(u32),
-}
-
-// How a cycle ends: the instruction goes on in a phase; it is done, and retired rises by so much; or it stored the counter.
-pub enum After {
-    More(Phase),
-    Done(u32),
-    Jump(u32),
-}
+use steps::Phase;
 
 // All of the core but its registers. IX holds the word of the instruction under way.
 pub struct Control {
@@ -61,22 +46,6 @@ struct Went {
     answer: u32,
     used: u64,
     control: Control,
-}
-
-// The latches as a step finds them.
-pub struct Latched {
-    pub address: u32,
-    pub datum: u32,
-    pub base: u32,
-}
-
-// What a step leaves beside the registers and the memory, which are lent.
-pub struct Step {
-    pub flags: u32,
-    pub address: u32,
-    pub datum: u32,
-    pub base: u32,
-    pub after: After,
 }
 
 // The counter and the words fetched ahead.

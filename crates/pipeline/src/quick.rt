@@ -8,16 +8,16 @@ ghost use Rattle.pipeline.specs.Whole.{between, GoesOn, Kept, movedOn, i
 use crate::Between;
 use crate::Came;
 use crate::Control;
-use crate::Phase;
 use crate::Under;
 use crate::cycle::cycle;
-use crate::steps::behind;
 use datapath::counter::ahead;
 use memory::Fetched;
 use memory::fetch;
 use semantics::Board;
 use semantics::Performed;
 use semantics::perform::perform_at;
+use steps::Phase;
+use steps::first::behind;
 
 // After an instruction that met no stop.
 fn moved(at: Between, r: Performed) -> Between

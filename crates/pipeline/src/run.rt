@@ -8,7 +8,6 @@ use crate::Control;
 use crate::Core;
 use crate::CoreRan;
 use crate::CoreStarted;
-use crate::Phase;
 use crate::Went;
 use crate::cycle::cycle;
 use crate::numbers::refusal;
@@ -17,6 +16,7 @@ use crate::quick::settle;
 use crate::quick::skip;
 use memory::Fetched;
 use plain::numbers::start_answer;
+use steps::Phase;
 
 // What an accepted start hands back but the registers.
 fn fresh(flags: u32, entry: u32, length: u32) -> Control

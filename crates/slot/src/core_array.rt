@@ -5,7 +5,7 @@ use crate::registers_array::registers_of;
 use memory::Fetched;
 use pipeline::Control;
 use pipeline::Core;
-use pipeline::Phase;
+use steps::Phase;
 
 fn low(n: u64) -> u32
     ensures { λ r. ⌜ r ≡ low n ⌝ }

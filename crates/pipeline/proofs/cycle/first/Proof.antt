@@ -1,5 +1,5 @@
 use mathlib.Core.Path.{sym, _∙_}
-use Rattle.pipeline.specs.Steps.{first}
+use Rattle.steps.specs.Steps.{first}
 use Rattle.pipeline.proofs.Closing.{first-read}
 use borrow.Author.Needs.{needs}
 use Rattle.pipeline.proofs.cycle.first.Statement.{statement}

@@ -1,5 +1,5 @@
 use mathlib.Core.Path.{sym, _∙_}
-use Rattle.pipeline.specs.Steps.{later}
+use Rattle.steps.specs.Steps.{later}
 use Rattle.pipeline.proofs.Closing.{later-read}
 use borrow.Author.Needs.{needs}
 use Rattle.pipeline.proofs.cycle.later.Statement.{statement}

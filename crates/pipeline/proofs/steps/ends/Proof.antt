@@ -1,9 +1,0 @@
-use borrow.Author.Needs.{needs}
-use Rattle.pipeline.proofs.steps.ends.Statement.{statement}
-use Rattle.pipeline.proofs.steps.ends.Tie as tie
-
-returns-2 : tie.Need-returns-2
-returns-2 c = simp (c .before .goes .given .1, c .before .before .match .keys2)
-
-pub ends-spec : {M : Type 1} → statement M
-ends-spec = tie.close (tie.spec (λ c. search needs) (λ c. search needs) (λ c. search needs) returns-2)

@@ -1,0 +1,106 @@
+// Step 1 of each class; pc is A+8.
+ghost use mathlib.Core.Path.{_≡_};
+ghost use mathlib.Core.List.{List};
+ghost use Prim.Native.Nat.{ℕ};
+ghost use Rattle.bits.specs.Choice.{pick};
+ghost use Rattle.word.specs.declared.Instruction.{Instruction};
+ghost use Rattle.datapath.specs.Counter.{ahead};
+ghost use Rattle.transfer.specs.Single as single;
+ghost use Rattle.transfer.specs.Block as block;
+ghost use Rattle.steps.specs.Steps.{behind, first};
+ghost use Rattle.steps.specs.View.{stepped};
+use crate::After;
+use crate::Phase;
+use crate::Step;
+use crate::ending::last;
+use crate::ending::on;
+use crate::ending::still;
+use datapath::counter::ahead;
+use processing::process;
+use processing::shifts_by_register;
+use semantics::branch::branch;
+use transfer::block;
+use transfer::named::lowest;
+use transfer::single;
+use word::Block;
+use word::Branch;
+use word::Processing;
+use word::Single;
+
+// With shift by register all is done in the second step.
+pub fn first_processing(i: Processing, registers: &mut [u32; 15], flags: u32, pc: u32) -> Step
+    ensures { λ r. ⌜ ((mem : List ℕ) → stepped r (now (registers .exit)) mem ≡ first (Instruction.Processing i) (now (registers .entry)) flags pc mem) ⌝ }
+{
+    let o = i.operand;
+    if shifts_by_register(o) {
+        still(flags, After::More(Phase::Later(0)))
+    } else {
+        last(process(i, registers, flags, pc))
+    }
+}
+
+// What a store sends, read in step 1: R15 as A+12.
+fn first_datum(load: bool, registers: &[u32; 15], n: u32, flags: u32, pc: u32) -> u32
+    ensures { λ r. ⌜ r ≡ pick load 0 (single.storedValue (now (registers .entry)) n flags (ahead pc 4)) ⌝ }
+{
+    if load {
+        0
+    } else {
+        single::stored_value(registers, n, flags, ahead(pc, 4))
+    }
+}
+
+fn single_base(i: Single, registers: &[u32; 15], flags: u32, pc: u32) -> u32
+    ensures { λ r. ⌜ r ≡ pick (single.writesBase i) (single.changedBase i (now (registers .entry)) flags pc) 0 ⌝ }
+{
+    if single::writes_base(i) {
+        single::changed_base(i, registers, flags, pc)
+    } else {
+        0
+    }
+}
+
+pub fn first_single(i: Single, registers: &[u32; 15], flags: u32, pc: u32) -> Step
+    ensures { λ r. ⌜ ((mem : List ℕ) → stepped r (now (registers .entry)) mem ≡ first (Instruction.Single i) (now (registers .entry)) flags pc mem) ⌝ }
+{
+    let address = single::address(i, registers, flags, pc);
+    let datum = first_datum(i.l, registers, i.rd, flags, pc);
+    on(
+        flags,
+        address,
+        datum,
+        single_base(i, registers, flags, pc),
+        0,
+    )
+}
+
+fn block_base(i: Block, registers: &[u32; 15]) -> u32
+    ensures { λ r. ⌜ r ≡ pick (i .w) (block.changedBase i (now (registers .entry))) 0 ⌝ }
+{
+    if i.w {
+        block::changed_base(i, registers)
+    } else {
+        0
+    }
+}
+
+pub fn first_block(i: Block, registers: &[u32; 15], flags: u32, pc: u32) -> Step
+    ensures { λ r. ⌜ ((mem : List ℕ) → stepped r (now (registers .entry)) mem ≡ first (Instruction.Block i) (now (registers .entry)) flags pc mem) ⌝ }
+{
+    let address = block::lowest_address(i, registers);
+    let datum = first_datum(i.l, registers, lowest(i.list), flags, pc);
+    on(flags, address, datum, block_base(i, registers), 0)
+}
+
+// The address of the instruction whose step 1 sees this counter, modulo 2^26.
+pub fn behind(pc: u32) -> u32
+    ensures { λ r. ⌜ r ≡ behind pc ⌝ }
+{
+    ahead(pc, 0x3fffff8)
+}
+
+pub fn first_branch(i: Branch, registers: &mut [u32; 15], flags: u32, pc: u32) -> Step
+    ensures { λ r. ⌜ ((mem : List ℕ) → stepped r (now (registers .exit)) mem ≡ first (Instruction.Branch i) (now (registers .entry)) flags pc mem) ⌝ }
+{
+    last(branch(i, registers, flags, behind(pc)))
+}
