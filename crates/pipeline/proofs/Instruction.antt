@@ -30,12 +30,12 @@ use Rattle.registers.specs.Registers.{Out, out, put, arrives}
 use Rattle.processing.specs.Processing.{processed, byRegister?}
 use Rattle.transfer.specs.Single as single
 use Rattle.transfer.specs.Block as block
-use Rattle.semantics.specs.declared.Board.{Board}
+use Rattle.stops.specs.declared.Board.{Board}
 use Rattle.semantics.specs.Branch.{branched}
 use Rattle.semantics.specs.Effect.{Effect, effect, effectOf, loadEffect, storeEffect, blockLoadEffect, blockStoreEffect, ownSteps, refills, nextAddress}
-use Rattle.semantics.specs.Stops.{stopOf, movedStop, ruleBroken, firstBroken, blockRules, is15, movedBy, storedBy, span, outside, hits}
-use Rattle.semantics.specs.Perform.{stopFor, effectFor, stepsFor}
-use Rattle.semantics.proofs.Spans.{last-decides}
+use Rattle.stops.specs.Stops.{stopOf, movedStop, ruleBroken, firstBroken, blockRules, is15, movedBy, storedBy, span, outside, hits, stopFor}
+use Rattle.semantics.specs.Perform.{effectFor, stepsFor}
+use Rattle.stops.proofs.Spans.{last-decides}
 use Rattle.steps.specs.declared.Phase.the-variants.{Step1, Later}
 use Rattle.steps.specs.declared.After.the-variants.{More, Done}
 use Rattle.pipeline.specs.Machine.{Machine, pipe}

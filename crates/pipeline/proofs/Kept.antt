@@ -14,7 +14,7 @@ use Rattle.memory.specs.Memory.{writeWord, writeByte, wordAt}
 use Rattle.memory.proofs.Laws.{word-at-other, word-at-other-byte}
 use Rattle.transfer.specs.Single.{storedValue, storedTo}
 use Rattle.transfer.specs.Block.{stores, storesAll, next}
-use Rattle.semantics.specs.Stops.{span, hits}
+use Rattle.stops.specs.Stops.{span, hits}
 
 pub or-false : (a : Bool) {b : Bool} → (a || b) ≡ false → (a ≡ false) × (b ≡ false)
 or-false true e = (e, cc)

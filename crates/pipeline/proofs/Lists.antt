@@ -13,7 +13,7 @@ use lib.Dec.{ltb, leb, eqb}
 use borrow.Author.Tests.{lt-ltb, le-ltb, le-leb, eq-eqb, ne-eqb, ltb-true, ltb-false, eqb-true, eqb-false}
 use Rattle.bits.specs.Choice.{pick}
 use Rattle.memory.specs.declared.Fetched.the-variants.{Blank}
-use Rattle.semantics.specs.Perform.{stopFor}
+use Rattle.stops.specs.Stops.{stopFor}
 use Rattle.plain.specs.Machine as plain
 use Rattle.plain.specs.Numbers.{badLength, badEntry, badFlags, badBudget, isCounter, isStop, startAnswer}
 use Rattle.plain.specs.Trace.{trace, stopMet, duration, durations}

@@ -14,8 +14,7 @@ use Rattle.transfer.specs.Single as single
 use Rattle.transfer.specs.Block as block
 use Rattle.semantics.specs.Branch as branch
 use Rattle.semantics.specs.Effect as effect
-use Rattle.semantics.specs.Stops as stops
-use Rattle.semantics.specs.Perform as perform
+use Rattle.stops.specs.Stops as stops
 use Rattle.plain.specs.Numbers as plain
 use Rattle.steps.specs.Steps.{behind, first, later}
 use Rattle.pipeline.specs.Cycle.{ownOf, cycle}
@@ -23,11 +22,12 @@ use Rattle.pipeline.specs.Numbers.{stopFound, bad, refusal}
 use Rattle.pipeline.specs.Run.{start, runFrom, run}
 use Rattle.pipeline.specs.Marked.{Report, Marked}
 use Rattle.datapath.proofs.Marked as datapath
+use Rattle.stops.proofs.Marked as stopping
 use Rattle.semantics.proofs.Marked as semantics
 
 report : Report
-unfolding bits.field bits.bit reader.readOf condition.passes shifter.constant shifter.ror shifter.rotated alu.sum alu.difference alu.operate alu.flagsOf counter.ahead counter.counter counter.r15Word memory.holdsWord memory.readWord memory.wordAt registers.register registers.put registers.arrives processing.operandOf processing.computedOf processing.flagsAfter processing.stored processing.processed branch.branched effect.effectOf stops.ruleBroken stops.movedBy stops.storedBy stops.movedStop stops.stopOf perform.stopFor plain.startAnswer behind first later ownOf cycle stopFound bad refusal start runFrom run
+unfolding bits.field bits.bit reader.readOf condition.passes shifter.constant shifter.ror shifter.rotated alu.sum alu.difference alu.operate alu.flagsOf counter.ahead counter.counter counter.r15Word memory.holdsWord memory.readWord memory.wordAt registers.register registers.put registers.arrives processing.operandOf processing.computedOf processing.flagsAfter processing.stored processing.processed branch.branched effect.effectOf stops.ruleBroken stops.movedBy stops.storedBy stops.movedStop stops.stopOf stops.stopFor plain.startAnswer behind first later ownOf cycle stopFound bad refusal start runFrom run
 report = record { answer = refl; pc = refl; cycles = refl; retired = refl; flags = refl; registers = refl }
 
 pub marked : Marked
-marked = record { datapath = datapath.marked; instructions = semantics.marked; report = report }
+marked = record { datapath = datapath.marked; stops = stopping.marked; instructions = semantics.marked; report = report }

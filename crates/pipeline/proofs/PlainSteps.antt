@@ -15,8 +15,8 @@ use Rattle.word.specs.Reader.{readOf}
 use Rattle.word.specs.Writer.{isOther}
 use Rattle.condition.specs.Condition.{passes}
 use Rattle.memory.specs.declared.Fetched.the-variants.{Word, Blank}
-use Rattle.semantics.specs.declared.Board.{Board}
-use Rattle.semantics.specs.Stops as stops
+use Rattle.stops.specs.declared.Board.{Board}
+use Rattle.stops.specs.Stops as stops
 use Rattle.memory.specs.Memory.{wordAt}
 use Rattle.memory.specs.declared.Fetched.{Fetched}
 use Rattle.registers.specs.declared.Goes.{Goes}
@@ -24,7 +24,8 @@ use Rattle.datapath.specs.Counter.{ahead, counter}
 use Rattle.datapath.proofs.Counters.{ahead-lt, counter-lt}
 use Rattle.registers.specs.declared.Goes.the-variants.{Next, To}
 use Rattle.semantics.specs.Effect.{Effect, refills, nextAddress}
-use Rattle.semantics.specs.Perform.{resultOf, performed, done, stopFor, effectFor, stepsFor, performs, resultFor}
+use Rattle.semantics.specs.Perform.{resultOf, performed, done, effectFor, stepsFor, performs, resultFor}
+use Rattle.stops.specs.Stops.{stopFor}
 use Rattle.semantics.proofs.Durations.{refills-short, steps-for-short}
 use Rattle.plain.specs.Machine as plain
 use Rattle.plain.specs.Trace.{stopMet, duration}

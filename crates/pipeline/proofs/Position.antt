@@ -9,7 +9,7 @@ use native.Mathlib.Omega.{arith}
 use native.Mathlib.Nat.{eq-or-lt-of-le, le-of-suc-le-suc}
 use lib.ListN.{length}
 use Rattle.datapath.specs.Counter.{ahead}
-use Rattle.semantics.specs.Perform.{stopFor}
+use Rattle.stops.specs.Stops.{stopFor}
 use Rattle.plain.specs.Machine as plain
 use Rattle.plain.specs.Trace.{trace, stopMet, duration, durations}
 use Rattle.steps.specs.declared.Phase.{Phase}

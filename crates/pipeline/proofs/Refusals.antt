@@ -15,9 +15,8 @@ use Rattle.word.specs.Reader.{readOf}
 use Rattle.condition.specs.Condition.{passes}
 use Rattle.memory.specs.declared.Fetched.{Fetched}
 use Rattle.memory.specs.declared.Fetched.the-variants.{Word, Blank}
-use Rattle.semantics.specs.declared.Board.{Board}
-use Rattle.semantics.specs.Stops.{stopOf, ruleBroken, movedStop, movedBy, storedBy}
-use Rattle.semantics.specs.Perform.{stopFor}
+use Rattle.stops.specs.declared.Board.{Board}
+use Rattle.stops.specs.Stops.{stopOf, ruleBroken, movedStop, movedBy, storedBy, stopFor}
 use Rattle.plain.specs.Numbers.{badLength, badEntry, badFlags, badBudget, isCounter, isStop, startAnswer}
 use Rattle.steps.specs.declared.Phase.{Phase}
 use Rattle.steps.specs.declared.Phase.the-variants.{Step1}

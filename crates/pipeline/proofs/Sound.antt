@@ -35,8 +35,7 @@ use Rattle.transfer.specs.Single as single
 use Rattle.transfer.specs.Block as block
 use Rattle.semantics.specs.Branch.{branched}
 use Rattle.semantics.specs.Effect.{ownSteps}
-use Rattle.semantics.specs.Stops.{stopOf, ruleBroken, movedBy, span, outside}
-use Rattle.semantics.specs.Perform.{stopFor}
+use Rattle.stops.specs.Stops.{stopOf, ruleBroken, movedBy, span, outside, stopFor}
 use Rattle.steps.specs.declared.Phase.{Phase}
 use Rattle.steps.specs.declared.Phase.the-variants.{Step1, Refill1, Refill2, Later}
 use Rattle.steps.specs.declared.After.{After}

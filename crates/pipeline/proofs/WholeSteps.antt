@@ -7,7 +7,8 @@ use lib.Dec.{eqb}
 use Rattle.bits.proofs.Tests.{zero-by, nonzero-by}
 use Rattle.memory.specs.Memory.{wordAt}
 use Rattle.semantics.specs.declared.Performed.{Performed}
-use Rattle.semantics.specs.Perform.{Result, resultOf, stopFor, performs}
+use Rattle.semantics.specs.Perform.{Result, resultOf, performs}
+use Rattle.stops.specs.Stops.{stopFor}
 use mathlib.Core.Path.{_≡_, refl, sym, ap, _∙_}
 use native.Mathlib.Omega.{arith}
 use native.Mathlib.Nat.{zero-add}

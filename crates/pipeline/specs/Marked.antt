@@ -1,9 +1,10 @@
--- The marked values, one theorem: those of the shifter and the ALU, those of instructions, and the report.
+-- The marked values, one theorem: those of the shifter and the ALU, those of stops and of instructions, and the report.
 use Prim.Native.Nat.{ℕ}
 use mathlib.Core.Path.{_≡_}
 use mathlib.Core.List.{List, [], _∷_}
 use lib.ListN.{length, replicate}
 use Rattle.datapath.specs.Marked as datapath
+use Rattle.stops.specs.Marked as stops
 use Rattle.semantics.specs.Marked as semantics
 use Rattle.pipeline.specs.Machine.{machine}
 use Rattle.pipeline.specs.Run.{Ran, start, run}
@@ -30,5 +31,6 @@ pub record Report : Type 0 where
 
 pub record Marked : Type 0 where
   pub datapath : datapath.Marked
+  pub stops : stops.Marked
   pub instructions : semantics.Marked
   pub report : Report

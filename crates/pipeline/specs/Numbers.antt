@@ -14,8 +14,7 @@ use Rattle.memory.specs.declared.Fetched.{Fetched}
 use Rattle.memory.specs.declared.Fetched.the-variants.{Word, Blank}
 use Rattle.transfer.specs.Block.{count}
 use Rattle.semantics.specs.Effect.{ownSteps}
-use Rattle.semantics.specs.Stops.{ruleBroken, span, outside}
-use Rattle.semantics.specs.Perform.{stopFor}
+use Rattle.stops.specs.Stops.{ruleBroken, span, outside, stopFor}
 use Rattle.plain.specs.Numbers.{badLength, badFlags, badBudget, isCounter, isStop}
 use Rattle.steps.specs.declared.Phase.{Phase}
 use Rattle.steps.specs.declared.Phase.the-variants.{Step1, Refill1, Refill2, Later}

@@ -13,11 +13,11 @@ use crate::cycle::cycle;
 use datapath::counter::ahead;
 use memory::Fetched;
 use memory::fetch;
-use semantics::Board;
 use semantics::Performed;
 use semantics::perform::perform_at;
 use steps::Phase;
 use steps::first::behind;
+use stops::Board;
 
 // After an instruction that met no stop.
 fn moved(at: Between, r: Performed) -> Between

@@ -3,8 +3,8 @@ ghost use mathlib.Core.Path.{_≡_};
 ghost use Rattle.plain.specs.Machine.{step};
 ghost use Rattle.plain.specs.Lent.{lent};
 use crate::At;
-use semantics::Board;
 use semantics::perform::perform_at;
+use stops::Board;
 
 pub fn advance(registers: &mut [u32; 15], memory: &mut [u8], at: At, length: u32) -> At
     ensures { λ r. ⌜ lent (now (registers .exit)) r length (now (memory .exit)) ≡ step (lent (now (registers .entry)) at length (now (memory .entry))) ⌝ }

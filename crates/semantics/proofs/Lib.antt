@@ -1,4 +1,3 @@
-pub mod Spans
 pub mod Durations
 pub mod Results
 pub mod Marked

@@ -13,8 +13,8 @@ use Rattle.transfer.specs.Single.{offsetOf, addressOf, loadedValue, storedValue
 use Rattle.transfer.specs.Block.{namedFrom, named, changedBase, lowestAddress, withBase, loads, stores, storesAll}
 use Rattle.semantics.specs.Branch.{branched}
 use Rattle.semantics.specs.Effect.{loadEffect, storeEffect, blockLoadEffect, blockStoreEffect, effectOf, ownSteps}
-use Rattle.semantics.specs.Stops.{ruleBroken, movedBy, storedBy, movedStop, stopOf}
-use Rattle.semantics.specs.Perform.{stopFor, effectFor, stepsFor, performs}
+use Rattle.stops.specs.Stops.{ruleBroken, movedBy, storedBy, movedStop, stopOf, stopFor}
+use Rattle.semantics.specs.Perform.{effectFor, stepsFor, performs}
 use Rattle.semantics.specs.Marked.{Marked}
 
 pub marked : Marked
@@ -26,9 +26,5 @@ marked = record {
   link = refl;
   stored = refl;
   block-stored = refl;
-  store-24 = λ f. refl;
-  store-28 = λ f. refl;
-  store-20 = λ f. refl;
-  store-2C = λ f. refl;
   cycles = λ f. refl;
 }

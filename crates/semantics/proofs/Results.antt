@@ -25,12 +25,12 @@ use Rattle.registers.specs.Registers.{Out, out, arrives}
 use Rattle.processing.specs.Processing.{processed, byRegister?, readsAt}
 use Rattle.transfer.specs.Single as single
 use Rattle.transfer.specs.Block as block
-use Rattle.semantics.specs.declared.Board.{Board}
+use Rattle.stops.specs.declared.Board.{Board}
 use Rattle.semantics.specs.declared.Performed.{Performed}
 use Rattle.semantics.specs.Branch.{branched}
 use Rattle.semantics.specs.Effect.{Effect, effect, loadEffect, storeEffect, blockLoadEffect, blockStoreEffect, effectOf, ownSteps, refills, nextAddress}
-use Rattle.semantics.specs.Stops.{stopOf, ruleBroken, movedStop, movedBy, storedBy}
-use Rattle.semantics.specs.Perform.{Result, resultOf, performed, done, resultFor, stopFor, effectFor, stepsFor, performs}
+use Rattle.stops.specs.Stops.{stopOf, ruleBroken, movedStop, movedBy, storedBy, stopFor}
+use Rattle.semantics.specs.Perform.{Result, resultOf, performed, done, resultFor, effectFor, stepsFor, performs}
 use Rattle.semantics.specs.Executed.{executed}
 
 and-none : (s : ℕ) → s ≡ s + 0

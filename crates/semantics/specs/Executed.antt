@@ -2,9 +2,9 @@
 use Prim.Native.Nat.{ℕ}
 use mathlib.Core.List.{List}
 use Rattle.word.specs.declared.Instruction.{Instruction}
-use Rattle.semantics.specs.declared.Board.{Board}
+use Rattle.stops.specs.declared.Board.{Board}
 use Rattle.semantics.specs.Effect.{effectOf, ownSteps}
-use Rattle.semantics.specs.Stops.{stopOf}
+use Rattle.stops.specs.Stops.{stopOf}
 use Rattle.semantics.specs.Perform.{Result, resultFor}
 
 unfoldable pub executed : Instruction → List ℕ → ℕ → ℕ → List ℕ → Board → Result

@@ -27,10 +27,5 @@ pub record Marked : Type 0 where
   pub link : register (performedAt 0x20 0xEB000000 0 6 zeros .registers) 14 0 ≡ 0x60000024
   pub stored : readWord (performedAt 0x20 0xE581F000 0 6 zeros .memory) 0 ≡ 0x6000002C
   pub block-stored : readWord (performedAt 0x20 0xE8818000 0 6 zeros .memory) 0 ≡ 0x6000002C
-  -- Stores to 24 and 28 stop, to 20 and 2C don't. STR R0, [R1]
-  pub store-24 : (f : ℕ) → performedAt 0x20 0xE5810000 0x24 f zeros .performed .stop ≡ 25
-  pub store-28 : (f : ℕ) → performedAt 0x20 0xE5810000 0x28 f zeros .performed .stop ≡ 25
-  pub store-20 : (f : ℕ) → performedAt 0x20 0xE5810000 0x20 f zeros .performed .stop ≡ 0
-  pub store-2C : (f : ℕ) → performedAt 0x20 0xE5810000 0x2C f zeros .performed .stop ≡ 0
   -- Load of R0,R2,R15: 7 cycles. LDMIA R1
   pub cycles : (f : ℕ) → performedAt 0 0xE8918005 0 f zeros .performed .cycles ≡ 7

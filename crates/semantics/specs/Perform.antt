@@ -10,15 +10,10 @@ use Rattle.memory.specs.declared.Fetched.{Fetched}
 use Rattle.memory.specs.declared.Fetched.the-variants.{Word, Blank}
 use Rattle.registers.specs.declared.Goes.the-variants.{Next}
 use Rattle.registers.specs.Registers.{out}
-use Rattle.semantics.specs.declared.Board.{Board}
+use Rattle.stops.specs.declared.Board.{Board}
 use Rattle.semantics.specs.declared.Performed.{Performed}
 use Rattle.semantics.specs.Effect.{Effect, effect, effectOf, ownSteps, refills, nextAddress}
-use Rattle.semantics.specs.Stops.{stopOf}
-
--- the stop it meets, or 0: 21 where there is no word, and a failed condition hides the others
-unfoldable pub stopFor : Fetched → List ℕ → ℕ → ℕ → Board → ℕ
-stopFor Blank g f a board = 21
-stopFor (Word w) g f a board = pick (passes (field w 28 4) f) (stopOf (readOf w) g f a board) 0
+use Rattle.stops.specs.Stops.{stopFor}
 
 -- what it does where it meets no stop: a failed condition does nothing
 unfoldable pub effectFor : Fetched → List ℕ → ℕ → ℕ → List ℕ → Effect

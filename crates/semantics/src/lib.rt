@@ -3,14 +3,6 @@ ghost use mathlib.Core.Path.{_≡_};
 
 pub mod branch;
 pub mod perform;
-pub mod rules;
-pub mod span;
-pub mod stop;
-
-// What a core is built into; later requests add to it.
-pub struct Board {
-    pub length: u32,
-}
 
 // What came of an instruction beside registers and memory: the stop met, or 0; the flags; the address of the next instruction, after a stop its own; the cycles taken.
 pub struct Performed {

@@ -1,4 +1,4 @@
-use Rattle.semantics.specs.Stops.{ruleBroken}
+use Rattle.stops.specs.Stops.{ruleBroken}
 use borrow.Author.Needs.{needs}
 use Rattle.pipeline.proofs.numbers.rule_broken.Statement.{statement}
 use Rattle.pipeline.proofs.numbers.rule_broken.Tie as tie

@@ -1,0 +1,15 @@
+-- The marked values hold, by computation on the definitions.
+-- Assumes nothing.
+use mathlib.Core.Path.{refl}
+use Rattle.bits.specs.Bits.{field, bit}
+use Rattle.word.specs.Reader.{readOf}
+use Rattle.condition.specs.Condition.{passes}
+use Rattle.datapath.specs.Counter.{ahead}
+use Rattle.registers.specs.Registers.{register}
+use Rattle.transfer.specs.Single as single
+use Rattle.stops.specs.Stops.{ruleBroken, movedBy, storedBy, movedStop, stopOf, stopFor}
+use Rattle.stops.specs.Marked.{Marked}
+
+pub marked : Marked
+unfolding field bit readOf passes ahead register single.offsetOf single.changedBase single.addressOf ruleBroken movedBy storedBy movedStop stopOf stopFor
+marked = record { store-24 = λ f. refl; store-28 = λ f. refl; store-20 = λ f. refl; store-2C = λ f. refl }

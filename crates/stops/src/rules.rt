@@ -1,0 +1,96 @@
+// The eight rules of stop 23.
+ghost use mathlib.Core.Path.{_≡_};
+ghost use Rattle.word.specs.declared.Instruction.{Instruction};
+ghost use mathlib.Core.Bool.{_&&_};
+ghost use Rattle.transfer.specs.Single.{writesBase};
+ghost use Rattle.stops.specs.Stops.{is15, rsIs15, rmIs15, ruleBroken};
+use datapath::alu::stores_result;
+use transfer::named::count;
+use transfer::single::writes_base;
+use word::Block;
+use word::Operand;
+use word::Processing;
+use word::Single;
+
+fn rs_is_15(o: Operand) -> bool
+    ensures { λ r. ⌜ r ≡ rsIs15 o ⌝ }
+{
+    match o {
+        Operand::Constant { .. } => false,
+        Operand::ShiftByAmount { .. } => false,
+        Operand::ShiftByRegister {
+            rm: _,
+            shift: _,
+            rs,
+        } => 15 <= rs,
+    }
+}
+
+fn rm_is_15(o: Operand) -> bool
+    ensures { λ r. ⌜ r ≡ rmIs15 o ⌝ }
+{
+    match o {
+        Operand::Constant { .. } => false,
+        Operand::ShiftByAmount {
+            rm,
+            shift: _,
+            amount: _,
+        } => 15 <= rm,
+        Operand::ShiftByRegister {
+            rm,
+            shift: _,
+            rs: _,
+        } => 15 <= rm,
+    }
+}
+
+// The first rule that is broken, or 0.
+pub fn processing_rule(i: Processing) -> u32
+    ensures { λ r. ⌜ r ≡ ruleBroken (Instruction.Processing i) ⌝ }
+{
+    let o = i.operand;
+    if rs_is_15(o) {
+        return 1;
+    }
+    if stores_result(i.operation) {
+        return 0;
+    }
+    if i.s { 0 } else { 2 }
+}
+
+fn writes_15(i: Single) -> bool
+    ensures { λ r. ⌜ r ≡ (is15 (i .rn) && writesBase i) ⌝ }
+{
+    (15 <= i.rn) & writes_base(i)
+}
+
+fn byte_15(i: Single) -> bool
+    ensures { λ r. ⌜ r ≡ (i .b && is15 (i .rd)) ⌝ }
+{
+    i.b & (15 <= i.rd)
+}
+
+pub fn single_rule(i: Single) -> u32
+    ensures { λ r. ⌜ r ≡ ruleBroken (Instruction.Single i) ⌝ }
+{
+    if writes_15(i) {
+        return 3;
+    }
+    let o = i.offset;
+    if rm_is_15(o) {
+        return 4;
+    }
+    if byte_15(i) { 5 } else { 0 }
+}
+
+pub fn block_rule(i: Block) -> u32
+    ensures { λ r. ⌜ r ≡ ruleBroken (Instruction.Block i) ⌝ }
+{
+    if 15 <= i.rn {
+        return 6;
+    }
+    if i.s {
+        return 7;
+    }
+    if count(i.list) == 0 { 8 } else { 0 }
+}
