@@ -1,15 +1,15 @@
 -- A flight: the cycles from inside an instruction to the next boundary, and what holds of the core on the way.
 -- Assumes nothing.
 use Prim.Native.Nat.{ℕ, zero, suc, _+_}
-use mathlib.Core.Path.{_≡_, refl, sym, ap, _∙_}
-use mathlib.Core.List.{List, [], _∷_}
+use mathlib.Core.Path.{_≡_, refl, sym, ap}
+use mathlib.Core.List.{List}
 use mathlib.Core.Bool.{Bool, true, false}
 use Rattle.word.specs.Reader.{readOf}
 use Rattle.datapath.specs.Counter.{ahead, counter}
 use Rattle.datapath.proofs.Counters.{ahead-ahead}
 use Rattle.memory.specs.Memory.{wordAt}
 use Rattle.memory.specs.declared.Fetched.{Fetched}
-use Rattle.memory.specs.declared.Fetched.the-variants.{Word, Blank}
+use Rattle.memory.specs.declared.Fetched.the-variants.{Word}
 use Rattle.registers.specs.declared.Goes.{Goes}
 use Rattle.registers.specs.declared.Goes.the-variants.{Next, To}
 use Rattle.semantics.specs.Effect.{ownSteps, refills, nextAddress}

@@ -8,7 +8,7 @@ use mathlib.Core.Logic.{_≢_}
 use native.Mathlib.Omega.{arith}
 use lib.ListN.{length, getD, drop}
 use lib.Dec.{eqb, leb}
-use borrow.Author.Tests.{eqb-true, leb-false}
+use borrow.Author.Tests.{leb-false}
 use Rattle.bits.specs.Choice.{pick}
 use Rattle.bits.specs.Bits.{field}
 use Rattle.word.specs.declared.Processing.{Processing}
@@ -20,30 +20,28 @@ use Rattle.word.specs.Reader.{readOf}
 use Rattle.word.specs.Writer.{isOther}
 use Rattle.condition.specs.Condition.{passes}
 use Rattle.datapath.specs.Counter.{ahead}
-use Rattle.datapath.proofs.Counters.{ahead-lt}
 use Rattle.memory.specs.Memory.{wordAt, readWord, writeWord}
 use Rattle.memory.specs.declared.Fetched.{Fetched}
 use Rattle.memory.specs.declared.Fetched.the-variants.{Word, Blank}
-use Rattle.registers.specs.declared.Goes.{Goes}
-use Rattle.registers.specs.declared.Goes.the-variants.{Next, To}
-use Rattle.registers.specs.Registers.{Out, out, put, arrives}
+use Rattle.registers.specs.declared.Goes.the-variants.{Next}
+use Rattle.registers.specs.Registers.{out, put, arrives}
 use Rattle.processing.specs.Processing.{processed, byRegister?}
 use Rattle.transfer.specs.Single as single
 use Rattle.transfer.specs.Block as block
 use Rattle.stops.specs.declared.Board.{Board}
 use Rattle.semantics.specs.Branch.{branched}
 use Rattle.semantics.specs.Effect.{Effect, effect, effectOf, loadEffect, storeEffect, blockLoadEffect, blockStoreEffect, ownSteps, refills, nextAddress}
-use Rattle.stops.specs.Stops.{stopOf, movedStop, ruleBroken, firstBroken, blockRules, is15, movedBy, storedBy, span, outside, hits, stopFor}
+use Rattle.stops.specs.Stops.{stopOf, movedStop, ruleBroken, firstBroken, is15, movedBy, storedBy, span, outside, hits, stopFor}
 use Rattle.semantics.specs.Perform.{effectFor, stepsFor}
 use Rattle.stops.proofs.Spans.{last-decides}
 use Rattle.steps.specs.declared.Phase.the-variants.{Step1, Later}
-use Rattle.steps.specs.declared.After.the-variants.{More, Done}
+use Rattle.steps.specs.declared.After.the-variants.{More}
 use Rattle.pipeline.specs.Machine.{Machine, pipe}
-use Rattle.steps.specs.Steps.{Latches, latches, behind, Own, own, idle, first, later, loadLater, storeLater, loadStep, blockLoadLater, storeStep, blockStoreLater, onward}
+use Rattle.steps.specs.Steps.{Latches, latches, behind, own, idle, first, later, loadLater, storeLater, loadStep, blockLoadLater, storeStep, blockStoreLater, onward}
 use Rattle.pipeline.specs.Cycle.{cycle, ownOf}
 use Rattle.pipeline.specs.Term3.{boundary, lead}
 use Rattle.pipeline.proofs.Kept.{or-false, single-kept, stores-all-kept}
-use Rattle.pipeline.proofs.Flight.{Aloft, Flight, climb, more, inFlight, at, plainAt, turn12, land, Keeps, settle}
+use Rattle.pipeline.proofs.Flight.{Flight, climb, more, inFlight, at, plainAt, turn12, land, Keeps, settle}
 
 -- a core about to do step 1 of x at a
 abbrev pub begin : Fetched → List ℕ → ℕ → ℕ → ℕ → ℕ → ℕ → List ℕ → Machine

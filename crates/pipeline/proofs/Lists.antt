@@ -4,18 +4,16 @@ use Prim.Native.Nat.{ℕ, zero, suc, pred, _+_, _-_, _%_, _^_, _≤_, _<_}
 use mathlib.Core.Path.{_≡_, refl, sym, ap, _∙_}
 use mathlib.Core.List.{List, [], _∷_}
 use mathlib.Core.Bool.{Bool, true, false, not, _||_, _&&_}
-use mathlib.Core.Logic.{_≢_, _⊎_, inl, inr, ⊎-elim}
+use mathlib.Core.Logic.{_⊎_, inl, inr, ⊎-elim}
 use native.Mathlib.Omega.{arith}
 use native.Mathlib.Decide.{decLt}
 use native.Mathlib.Nat.{eq-or-lt-of-le, le-of-suc-le-suc}
 use lib.ListN.{length}
 use lib.Dec.{ltb, leb, eqb}
-use borrow.Author.Tests.{lt-ltb, le-ltb, le-leb, eq-eqb, ne-eqb, ltb-true, ltb-false, eqb-true, eqb-false}
+use borrow.Author.Tests.{lt-ltb, le-ltb, le-leb, eq-eqb, ltb-true, ltb-false, eqb-true, eqb-false}
 use Rattle.bits.specs.Choice.{pick}
-use Rattle.memory.specs.declared.Fetched.the-variants.{Blank}
-use Rattle.stops.specs.Stops.{stopFor}
 use Rattle.plain.specs.Machine as plain
-use Rattle.plain.specs.Numbers.{badLength, badEntry, badFlags, badBudget, isCounter, isStop, startAnswer}
+use Rattle.plain.specs.Numbers.{badLength, badEntry, badFlags, isStop, startAnswer}
 use Rattle.plain.specs.Trace.{trace, stopMet, duration, durations}
 use Rattle.steps.specs.declared.Phase.{Phase}
 use Rattle.steps.specs.declared.Phase.the-variants.{Step1, Refill1, Refill2, Later}
@@ -23,8 +21,8 @@ use Rattle.pipeline.specs.Machine.{Machine}
 use Rattle.pipeline.specs.Cycle.{cycle}
 use Rattle.pipeline.specs.Numbers.{stopFound, heldAway, badPhase, mostCycles, bad, refusal}
 use Rattle.pipeline.specs.Run.{holding, Ran, ran, oneMore, runFrom, repeated, answered, run}
-use Rattle.pipeline.specs.Term3.{fresh, plainFresh, sums, Does, Stops, Call, call, Reply, reply, calls, replies, Accepted, Answers, other-length, too-many, too-far, repeats, stops, spends, AllAnswer, none, more}
-use Rattle.pipeline.specs.Term3.{reach, boundary, Greatest, Distance, lead, Leaves, Term3}
+use Rattle.pipeline.specs.Term3.{fresh, plainFresh, sums, Does, Stops, Call, call, reply, calls, replies, Accepted, Answers, other-length, too-many, too-far, repeats, stops, spends, AllAnswer, none, more}
+use Rattle.pipeline.specs.Term3.{reach, boundary, Greatest, lead, Leaves, Term3}
 use Rattle.pipeline.proofs.Kept.{or-false}
 use Rattle.pipeline.proofs.Flight.{away, Aloft, Flight}
 use Rattle.pipeline.proofs.PlainSteps.{duration-flight, flight, Stop, stop-met}

@@ -10,8 +10,6 @@ use Rattle.datapath.specs.Counter as counter
 use Rattle.memory.specs.Memory as memory
 use Rattle.registers.specs.Registers as registers
 use Rattle.processing.specs.Processing as processing
-use Rattle.transfer.specs.Single as single
-use Rattle.transfer.specs.Block as block
 use Rattle.semantics.specs.Branch as branch
 use Rattle.semantics.specs.Effect as effect
 use Rattle.stops.specs.Stops as stops

@@ -1,15 +1,14 @@
 -- Where the core stands after t cycles: n cycles before the boundary after k instructions.
 -- Assumes nothing.
 use Prim.Native.Nat.{ℕ, zero, suc, pred, _+_, _^_, _≤_, _<_}
-use mathlib.Core.Path.{_≡_, refl, sym, ap, _∙_}
+use mathlib.Core.Path.{_≡_, refl, sym, _∙_}
 use mathlib.Core.List.{List}
-use mathlib.Core.Bool.{Bool, true, false}
+use mathlib.Core.Bool.{true}
 use mathlib.Core.Logic.{⊎-elim}
 use native.Mathlib.Omega.{arith}
 use native.Mathlib.Nat.{eq-or-lt-of-le, le-of-suc-le-suc}
 use lib.ListN.{length}
 use Rattle.datapath.specs.Counter.{ahead}
-use Rattle.stops.specs.Stops.{stopFor}
 use Rattle.plain.specs.Machine as plain
 use Rattle.plain.specs.Trace.{trace, stopMet, duration, durations}
 use Rattle.steps.specs.declared.Phase.{Phase}

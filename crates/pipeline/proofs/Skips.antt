@@ -1,12 +1,10 @@
 -- A run that goes on: cycles until step 1, whole instructions from there, and what is left of the budget.
 -- Assumes nothing.
-use Prim.Native.Nat.{ℕ, zero, suc, _+_, _-_, _^_, _≤_, _<_}
+use Prim.Native.Nat.{ℕ, zero, suc, _+_, _-_, _^_, _≤_}
 use mathlib.Core.Path.{_≡_, refl, sym, ap, _∙_}
 use mathlib.Core.List.{List}
 use mathlib.Core.Bool.{Bool, true, false, _&&_}
-use native.Mathlib.Nat.{add-assoc}
 use native.Mathlib.Omega.{arith}
-use Rattle.memory.specs.Memory.{wordAt}
 use Rattle.datapath.specs.Counter.{ahead}
 use Rattle.steps.specs.declared.Phase.{Phase}
 use Rattle.steps.specs.declared.Phase.the-variants.{Step1, Refill1, Refill2, Later}

@@ -1,10 +1,9 @@
 -- A core that passes the test for a bad record passes it after a cycle.
 -- Assumes nothing.
-use Prim.Native.Nat.{ℕ, zero, suc, _+_, _-_, _*_, _%_, _^_, _≤_, _<_}
-use mathlib.Core.Path.{_≡_, refl, sym, ap, _∙_}
-use mathlib.Core.List.{List, [], _∷_, tail}
-use mathlib.Core.Bool.{Bool, true, false, not, _||_}
-use mathlib.Core.Logic.{_≢_}
+use Prim.Native.Nat.{ℕ, zero, suc, _+_, _-_, _%_, _^_, _≤_, _<_}
+use mathlib.Core.Path.{_≡_, refl, ap, _∙_}
+use mathlib.Core.List.{List, [], _∷_}
+use mathlib.Core.Bool.{Bool, true, false, not}
 use native.Mathlib.Nat.{mod-eq-of-lt}
 use native.Mathlib.Omega.{arith}
 use lib.ListN.{length, drop, set}
@@ -29,7 +28,7 @@ use Rattle.memory.specs.declared.Fetched.{Fetched}
 use Rattle.memory.specs.declared.Fetched.the-variants.{Word, Blank}
 use Rattle.registers.specs.declared.Goes.{Goes}
 use Rattle.registers.specs.declared.Goes.the-variants.{Next, To}
-use Rattle.registers.specs.Registers.{Out, out, put, arrives}
+use Rattle.registers.specs.Registers.{out, arrives}
 use Rattle.processing.specs.Processing.{processed, stored, flagsAfter, computedOf, operandOf, byRegister?}
 use Rattle.transfer.specs.Single as single
 use Rattle.transfer.specs.Block as block
@@ -44,9 +43,9 @@ use Rattle.pipeline.specs.declared.Control.{Control}
 use Rattle.pipeline.specs.Machine.{Machine, Pipe, pipeOf, latchesOf}
 use Rattle.steps.specs.Steps.{Latches, behind, Own, last, ends, still, onward, first, later, loadLater, storeLater, loadStep, blockLoadLater, storeStep, blockStoreLater}
 use Rattle.pipeline.specs.Cycle.{cycle, ownOf, fetches, turned, phaseAfter, retiredBy}
-use Rattle.pipeline.specs.Numbers.{atStep1, stopFound, leftToMove, badWordStep, badStep, badPhase}
+use Rattle.pipeline.specs.Numbers.{atStep1, stopFound, leftToMove, badWordStep, badPhase}
 use Rattle.pipeline.proofs.Kept.{or-false}
-use Rattle.pipeline.proofs.Instruction.{extra, own-steps, Quiet, quietly, names-some, drop-next, drop-count}
+use Rattle.pipeline.proofs.Instruction.{extra, own-steps, Quiet, quietly, names-some, drop-count}
 
 -- what the test says of step j + 2 of an instruction
 pub record Mid (i : Instruction) (j address n : ℕ) : Type 0 where

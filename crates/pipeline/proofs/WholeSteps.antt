@@ -2,14 +2,14 @@
 -- Assumes nothing.
 use Prim.Native.Nat.{ℕ, zero, suc, _+_, _-_, _^_, _≤_, _<_}
 use mathlib.Core.List.{List}
-use mathlib.Core.Bool.{true, false}
+use mathlib.Core.Bool.{false}
 use lib.Dec.{eqb}
-use Rattle.bits.proofs.Tests.{zero-by, nonzero-by}
+use Rattle.bits.proofs.Tests.{nonzero-by}
 use Rattle.memory.specs.Memory.{wordAt}
 use Rattle.semantics.specs.declared.Performed.{Performed}
 use Rattle.semantics.specs.Perform.{Result, resultOf, performs}
 use Rattle.stops.specs.Stops.{stopFor}
-use mathlib.Core.Path.{_≡_, refl, sym, ap, _∙_}
+use mathlib.Core.Path.{_≡_, sym, ap, _∙_}
 use native.Mathlib.Omega.{arith}
 use native.Mathlib.Nat.{zero-add}
 use Rattle.plain.specs.Machine as plain
@@ -17,7 +17,7 @@ use Rattle.plain.specs.Trace.{stopMet, duration}
 use Rattle.pipeline.specs.Machine.{Machine}
 use Rattle.pipeline.specs.Cycle.{cycle}
 use Rattle.pipeline.specs.Numbers.{stopFound}
-use Rattle.pipeline.specs.Run.{Ran, ran, oneMore, runFrom}
+use Rattle.pipeline.specs.Run.{ran, oneMore, runFrom}
 use Rattle.pipeline.specs.Term3.{boundary}
 use Rattle.pipeline.specs.Whole.{between, later, GoesOn, Kept, movedOn}
 use Rattle.pipeline.specs.declared.Between.{Between}

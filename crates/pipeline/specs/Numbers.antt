@@ -1,8 +1,8 @@
 -- When a stop is found, and what makes a record bad (paper 01, "Numbers caused by the state").
-use Prim.Native.Nat.{ℕ, zero, suc, _+_, _-_, _^_}
+use Prim.Native.Nat.{ℕ, suc, _+_, _-_, _^_}
 use mathlib.Core.Bool.{Bool, true, false, not, _||_}
 use mathlib.Core.List.{List}
-use lib.Dec.{ltb, leb, eqb}
+use lib.Dec.{ltb, eqb}
 use Rattle.bits.specs.Choice.{pick}
 use Rattle.bits.specs.Bits.{field}
 use Rattle.word.specs.declared.Single.{Single}

@@ -2,7 +2,6 @@
 use Prim.Native.Nat.{ℕ}
 use mathlib.Core.List.{List}
 use Rattle.memory.specs.Memory.{wordAt}
-use Rattle.stops.specs.declared.Board.{Board}
 use Rattle.semantics.specs.Perform.{Result, performs}
 use Rattle.plain.specs.declared.Plain.{Plain}
 

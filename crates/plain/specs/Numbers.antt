@@ -1,7 +1,6 @@
 -- Numbers 1 to 4, 11 and 12, as far as the plain machine has them (paper 01, the two lists of numbers and "Plain machine").
 use Prim.Native.Nat.{ℕ, _%_, _^_}
 use mathlib.Core.Bool.{Bool, not, _||_, _&&_}
-use mathlib.Core.List.{List}
 use lib.Dec.{ltb, leb, eqb}
 use lib.ListN.{length}
 use Rattle.bits.specs.Choice.{pick}

@@ -6,8 +6,6 @@ use mathlib.Core.List.{List}
 use native.Mathlib.Omega.{arith}
 use Rattle.bits.specs.Choice.{pick}
 use Rattle.bits.specs.Bits.{field}
-use Rattle.word.specs.declared.Operand.{Operand}
-use Rattle.word.specs.declared.Operand.the-variants.{Constant, ShiftByAmount, ShiftByRegister}
 use Rattle.word.specs.declared.Instruction.{Instruction}
 use Rattle.word.specs.Reader.{readOf}
 use Rattle.condition.specs.Condition.{passes}

@@ -1,11 +1,10 @@
 -- What the functions of `perform` join: the parts of an instruction, and a stop or an effect.
 -- Assumes nothing.
-use Prim.Native.Nat.{ℕ, zero, suc, _+_}
+use Prim.Native.Nat.{ℕ, zero, _+_}
 use mathlib.Core.Path.{_≡_, refl, sym, ap, _∙_}
 use mathlib.Core.Bool.{Bool, true, false}
 use mathlib.Core.List.{List}
 use native.Mathlib.Omega.{arith}
-use lib.Dec.{eqb}
 use Rattle.bits.specs.Choice.{pick}
 use Rattle.bits.specs.Bits.{field}
 use Rattle.bits.proofs.Tests.{zero-by, nonzero-by}
@@ -28,9 +27,9 @@ use Rattle.transfer.specs.Block as block
 use Rattle.stops.specs.declared.Board.{Board}
 use Rattle.semantics.specs.declared.Performed.{Performed}
 use Rattle.semantics.specs.Branch.{branched}
-use Rattle.semantics.specs.Effect.{Effect, effect, loadEffect, storeEffect, blockLoadEffect, blockStoreEffect, effectOf, ownSteps, refills, nextAddress}
+use Rattle.semantics.specs.Effect.{effect, loadEffect, storeEffect, blockLoadEffect, blockStoreEffect, effectOf, ownSteps, refills, nextAddress}
 use Rattle.stops.specs.Stops.{stopOf, ruleBroken, movedStop, movedBy, storedBy, stopFor}
-use Rattle.semantics.specs.Perform.{Result, resultOf, performed, done, resultFor, effectFor, stepsFor, performs}
+use Rattle.semantics.specs.Perform.{Result, resultOf, performed, done, effectFor, stepsFor, performs}
 use Rattle.semantics.specs.Executed.{executed}
 
 and-none : (s : ℕ) → s ≡ s + 0

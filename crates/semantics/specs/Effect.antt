@@ -1,6 +1,5 @@
 -- What a whole instruction at address a does, its own steps and its duration (paper 01, "Meaning" and the table of "Pipeline").
 use Prim.Native.Nat.{ℕ, _+_}
-use mathlib.Core.Bool.{Bool}
 use mathlib.Core.List.{List}
 use Rattle.bits.specs.Choice.{pick}
 use Rattle.word.specs.declared.Single.{Single}

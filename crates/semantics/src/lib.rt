@@ -1,6 +1,4 @@
 // What both engines share of a whole instruction: its stop, its effect and its duration.
-ghost use mathlib.Core.Path.{_≡_};
-
 pub mod branch;
 pub mod perform;
 

@@ -1,6 +1,5 @@
 -- What an instruction does in each of its own steps (paper 01, the table of "Pipeline"), besides the fetch.
 use Prim.Native.Nat.{ℕ, zero, suc, _+_, _-_, _%_, _^_}
-use mathlib.Core.Bool.{Bool}
 use mathlib.Core.List.{List, [], _∷_, tail}
 use lib.ListN.{getD, drop}
 use Rattle.bits.specs.Choice.{pick}
@@ -11,12 +10,11 @@ use Rattle.datapath.specs.Counter.{ahead}
 use Rattle.memory.specs.Memory.{readWord, writeWord}
 use Rattle.registers.specs.declared.Goes.{Goes}
 use Rattle.registers.specs.declared.Goes.the-variants.{Next, To}
-use Rattle.registers.specs.Registers.{Out, out, put, arrives}
+use Rattle.registers.specs.Registers.{Out, put, arrives}
 use Rattle.processing.specs.Processing.{processed, byRegister?}
 use Rattle.transfer.specs.Single as single
 use Rattle.transfer.specs.Block as block
 use Rattle.semantics.specs.Branch.{branched}
-use Rattle.steps.specs.declared.Phase.{Phase}
 use Rattle.steps.specs.declared.Phase.the-variants.{Later}
 use Rattle.steps.specs.declared.After.{After}
 use Rattle.steps.specs.declared.After.the-variants.{More, Done, Jump}

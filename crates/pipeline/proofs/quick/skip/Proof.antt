@@ -1,4 +1,3 @@
-use mathlib.Core.Path.{sym, _∙_}
 use Rattle.pipeline.proofs.Skips.{onward-start, onward-whole, kept-start}
 use borrow.Author.Needs.{needs}
 use Rattle.pipeline.proofs.quick.skip.Statement.{statement}

@@ -1,4 +1,4 @@
-use mathlib.Core.Path.{sym, _∙_}
+use mathlib.Core.Path.{_∙_}
 use borrow.Author.Tests.{eqb-true, ltb-true, leb-true}
 use Rattle.pipeline.proofs.Skips.{and-true, is-step1}
 use borrow.Author.Needs.{needs}

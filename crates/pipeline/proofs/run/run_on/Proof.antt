@@ -4,11 +4,6 @@ use Rattle.pipeline.proofs.Skips.{onward-done, used-within}
 use borrow.Author.Needs.{needs}
 use Rattle.pipeline.proofs.run.run_on.Statement.{statement}
 use Rattle.pipeline.proofs.run.run_on.Tie as tie
-use Rattle.pipeline.proofs.run.run_on.Reads as reads
-use Rattle.pipeline.proofs.run.run_on.Lts as lts
-use Rattle.pipeline.proofs.quick.settle.Reads as settle-reads
-use Rattle.pipeline.proofs.quick.skip.Reads as skip-reads
-use Rattle.pipeline.proofs.run.run_from.Reads as run-from-reads
 
 -- src/run.rt:88:9
 settle-requires : tie.Need-settle-requires

@@ -1,7 +1,6 @@
 -- The loop's invariant: what is left of the budget, run from here, is the run. Assumes nothing.
 use Prim.Native.Nat.{_-_}
 use mathlib.Core.Path.{_≡_, refl}
-use native.Mathlib.Omega.{arith}
 use lib.ListN.{length}
 use borrow.Author.Needs.{needs}
 use Rattle.plain.specs.Lent.{lent}

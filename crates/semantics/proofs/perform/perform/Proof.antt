@@ -1,4 +1,4 @@
-use mathlib.Core.Path.{refl, sym, _∙_}
+use mathlib.Core.Path.{sym, _∙_}
 use Rattle.semantics.proofs.Results.{passing, failing}
 use borrow.Author.Needs.{needs}
 use Rattle.semantics.proofs.perform.perform.Statement.{statement}

@@ -1,4 +1,3 @@
-use mathlib.Core.Path.{_∙_, ap}
 use Rattle.semantics.proofs.Results.{store-done}
 use borrow.Author.Needs.{needs}
 use Rattle.semantics.proofs.perform.store.Statement.{statement}
