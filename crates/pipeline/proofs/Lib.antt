@@ -7,6 +7,8 @@ pub mod Instruction
 pub mod PlainSteps
 pub mod Sound
 pub mod Position
+pub mod Lengths
+pub mod Phases
 pub mod Lists
 pub mod WholeSteps
 pub mod Skips

@@ -1,7 +1,7 @@
 -- Term 3, proved: an induction over the list of calls, with the core's position as its invariant.
 -- Assumes nothing.
 use Prim.Native.Nat.{ℕ, zero, suc, pred, _+_, _-_, _%_, _^_, _≤_, _<_}
-use mathlib.Core.Path.{_≡_, refl, sym, ap, _∙_}
+use mathlib.Core.Path.{_≡_, refl, sym, ap, subst, _∙_}
 use mathlib.Core.List.{List, [], _∷_}
 use mathlib.Core.Bool.{Bool, true, false, not, _||_, _&&_}
 use mathlib.Core.Logic.{_⊎_, inl, inr, ⊎-elim}
@@ -14,19 +14,22 @@ use borrow.Author.Tests.{lt-ltb, le-ltb, le-leb, eq-eqb, ltb-true, ltb-false, eq
 use Rattle.bits.specs.Choice.{pick}
 use Rattle.plain.specs.Machine as plain
 use Rattle.plain.specs.Numbers.{badLength, badEntry, badFlags, isStop, startAnswer}
+use Rattle.plain.specs.Run as plain-calls
 use Rattle.plain.specs.Trace.{trace, stopMet, duration, durations}
 use Rattle.steps.specs.declared.Phase.{Phase}
 use Rattle.steps.specs.declared.Phase.the-variants.{Step1, Refill1, Refill2, Later}
 use Rattle.pipeline.specs.Machine.{Machine}
 use Rattle.pipeline.specs.Cycle.{cycle}
 use Rattle.pipeline.specs.Numbers.{stopFound, heldAway, badPhase, mostCycles, bad, refusal}
-use Rattle.pipeline.specs.Run.{holding, Ran, ran, oneMore, runFrom, repeated, answered, run}
-use Rattle.pipeline.specs.Term3.{fresh, plainFresh, sums, Does, Stops, Call, call, reply, calls, replies, Accepted, Answers, other-length, too-many, too-far, repeats, stops, spends, AllAnswer, none, more}
-use Rattle.pipeline.specs.Term3.{reach, boundary, Greatest, lead, Leaves, Term3}
+use Rattle.pipeline.specs.Run.{start, holding, Ran, ran, oneMore, runFrom, repeated, answered, run}
+use Rattle.pipeline.specs.Term3.{fresh, plainFresh, sums, Does, Stops, Call, lend, call, Reply, reply, replyOf, Accepted, Refused, Calls, no-calls, accepted, refused, Answers, other-length, too-many, too-far, repeats, stops, spends, AllAnswer, none, more, Never, never-none, never-more}
+use Rattle.pipeline.specs.Term3.{reach, boundary, Greatest, lead, Leaves, Further, Term3}
 use Rattle.pipeline.proofs.Kept.{or-false}
+use Rattle.pipeline.proofs.Lengths.{reach-alike}
+use Rattle.pipeline.proofs.Phases.{not-false}
 use Rattle.pipeline.proofs.Flight.{away, Aloft, Flight}
 use Rattle.pipeline.proofs.PlainSteps.{duration-flight, flight, Stop, stop-met}
-use Rattle.pipeline.proofs.Position.{Pos, advance, started, boundary-stop, sums-step, ranged, away-quiet}
+use Rattle.pipeline.proofs.Position.{Pos, advance, beginning, started, boundary-stop, sums-step, ranged, away-quiet}
 
 reach-stop : (m : Machine) (t : ℕ) → reach m t .control .stop ≡ m .control .stop
 unfolding reach cycle
@@ -58,6 +61,31 @@ away-step1 Refill1 e h = let z : _≡_ {A = ℕ} 0 1 = cc in omega arith
 away-step1 Refill2 e h = let z : _≡_ {A = ℕ} 0 1 = cc in omega arith
 away-step1 (Later k) e h = let z : _≡_ {A = ℕ} 0 1 = cc in omega arith
 
+-- the cycles rise by those that a run says it used
+abbrev Rises : Machine → Ran → Type 0
+Rises m r = r .machine .control .cycles ≡ m .control .cycles + r .used
+
+rises-from : (b : ℕ) (m : Machine) → Rises m (runFrom b m)
+unfolding runFrom cycle
+rises-from zero m = omega arith
+rises-from (suc b) m = go (stopFound m) (rises-from b (cycle m))
+  where
+    go : (q : ℕ) → Rises (cycle m) (runFrom b (cycle m)) → Rises m (elim q [ zero ↦ oneMore (runFrom b (cycle m)) | suc q ↦ ran (suc q) 0 (holding m (suc q)) ])
+    go zero ih = omega (arith, ih)
+    go (suc q) ih = omega arith
+
+rises-repeated : (q b : ℕ) (m : Machine) → Rises m (repeated q b m)
+rises-repeated zero b m = rises-from b m
+rises-repeated (suc q) b m = omega arith
+
+rises-answered : (z b : ℕ) (m : Machine) → Rises m (answered z b m)
+rises-answered zero b m = rises-repeated (m .control .stop) b m
+rises-answered (suc z) b m = omega arith
+
+rises : (n b : ℕ) (m : Machine) → Rises m (run n b m)
+unfolding run
+rises n b m = rises-answered (refusal n b m) b m
+
 -- a stop that is met is one that a record can hold
 is-stop : (q : ℕ) → Stop q → isStop q ≡ true
 is-stop q h = ⊎-elim (λ e. rw e) (λ r. go (eqb q 0) r) h
@@ -65,6 +93,16 @@ is-stop q h = ⊎-elim (λ e. rw e) (λ r. go (eqb q 0) r) h
     go : (b : Bool) → (21 ≤ q) × (q ≤ 25) → (b || (leb 21 q && leb q 25)) ≡ true
     go true r = refl
     go false r = rw (le-leb 21 q (r .0), le-leb q 25 (r .1))
+
+-- every call is accepted or refused: what `Calls` asks of a list is only that accepted calls are lent the one memory
+pub accepted-or-refused : (n t : ℕ) (c : Call) → Accepted n t c ⊎ Refused n t c
+accepted-or-refused n t c = go (eqb (length (c .memory)) n) refl (decLt 1000000 (c .budget)) (decLt mostCycles (t + c .budget))
+  where
+    go : (b : Bool) → eqb (length (c .memory)) n ≡ b → Dec (1000000 < c .budget) → Dec (mostCycles < t + c .budget) → Accepted n t c ⊎ Refused n t c
+    go false e s f = inr (λ a. eqb-false _ _ e (a .lent))
+    go true e (yes s) f = inr (λ a. omega (arith, a .small))
+    go true e (no s) (yes f) = inr (λ a. omega (arith, a .near))
+    go true e (no s) (no f) = inl (record { lent = eqb-true _ _ e; small = omega arith; near = omega arith })
 
 module _ (p : plain.Machine) (m₀ : Machine) (r₀ : p .plain .a < 2 ^ 26) (s₀ : p .plain .length ≤ 65536) where
   -- a run that used its budget, and one that found a stop
@@ -174,8 +212,11 @@ module _ (p : plain.Machine) (m₀ : Machine) (r₀ : p .plain .a < 2 ^ 26) (s�
   stop-here {t} {q} h = ⊎-elim (λ e. rw e) (λ e. is-stop q (rw (e .1) at (stop-met (trace p (h .pos .k))))) (h .stop)
 
   module _ (n : ℕ) (good : badLength n ≡ false) (same-length : m₀ .control .length ≡ n) (no-cycles : m₀ .control .cycles ≡ 0) (no-stop : m₀ .control .stop ≡ 0) where
+    abbrev Reaches : Call → ℕ → ℕ → Ran → ℕ → Type 0
+    Reaches c t q r t′ = (q′ : ℕ) × Answers p n t q c (replyOf r) t′ q′ × (r .machine ≡ holding (reach m₀ t′) q′) × Here t′ q′
+
     abbrev Result : Call → ℕ → ℕ → Ran → Type 0
-    Result c t q r = (t′ : ℕ) × (q′ : ℕ) × Answers p n t q c (reply (r .answer) (r .used)) t′ q′ × (r .machine ≡ holding (reach m₀ t′) q′) × Here t′ q′
+    Result c t q r = (t′ : ℕ) × (t′ ≡ t + r .used) × Reaches c t q r t′
 
     -- 11 doesn't come up
     sound : {t q : ℕ} → Here t q → bad (holding (reach m₀ t) q .registers) (holding (reach m₀ t) q .control) ≡ false
@@ -208,61 +249,124 @@ module _ (p : plain.Machine) (m₀ : Machine) (r₀ : p .plain .a < 2 ^ 26) (s�
     ran-on c t a (inl x) =
         rw (x .is) (
           x .to,
-          0,
-          spends a refl (x .sum) (λ t″ q″ z. omega (arith, later-stop (x .pos .does) z, x .pos .total)),
-          sym (holding-none (reach m₀ (x .to)) (reach-stop m₀ (x .to) ∙ no-stop)),
-          record { pos = x .pos; small = omega (arith, a .near, x .sum); stop = inl refl },
+          x .sum,
+          (
+            0,
+            spends a refl (x .sum) (λ t″ q″ z. omega (arith, later-stop (x .pos .does) z, x .pos .total)),
+            sym (holding-none (reach m₀ (x .to)) (reach-stop m₀ (x .to) ∙ no-stop)),
+            record { pos = x .pos; small = omega (arith, a .near, x .sum); stop = inl refl },
+          ),
         )
     ran-on c t a (inr x) =
         let z : Stops p (x .to) (suc (x .q)) = record { k = x .pos .k; does = x .pos .does; total = omega (arith, x .pos .total, x .at); stop = x .stop; real = λ e. omega arith } in
         let d : x .u ≡ x .to - t = omega (arith, x .sum) in
         rw (x .is, d) (
           x .to,
-          suc (x .q),
-          stops a refl z (omega (arith, x .less, x .sum)),
-          refl,
-          record { pos = x .pos; small = omega (arith, x .less, x .sum, a .near); stop = inr (x .at, x .stop) },
+          omega (arith, x .sum),
+          (
+            suc (x .q),
+            stops a refl z (omega (arith, x .less, x .sum)),
+            refl,
+            record { pos = x .pos; small = omega (arith, x .less, x .sum, a .near); stop = inr (x .at, x .stop) },
+          ),
         )
 
     accept : (c : Call) (t q : ℕ) → Accepted n t c → Here t q → Result c t q (repeated q (c .budget) (holding (reach m₀ t) q))
     accept c t zero a h = rw (holding-none (reach m₀ t) (reach-stop m₀ t ∙ no-stop)) (ran-on c t a (running (c .budget) (h .pos)))
-    accept c t (suc q) a h = (t, suc q, repeats a (λ e. omega arith), refl, h)
+    accept c t (suc q) a h = (t, omega arith, (suc q, repeats a (λ e. omega arith), refl, h))
 
     -- what a run refuses with, at total t
-    refuses : (c : Call) (t q : ℕ) → Here t q → refusal (c .lent) (c .budget) (holding (reach m₀ t) q)
-        ≡ pick (not (eqb (c .lent) n)) 12 (pick (ltb 1000000 (c .budget)) 3 (pick (ltb mostCycles (t + c .budget)) 13 0))
+    abbrev number : Call → ℕ → ℕ
+    number c t = pick (not (eqb (length (c .memory)) n)) 12 (pick (ltb 1000000 (c .budget)) 3 (pick (ltb mostCycles (t + c .budget)) 13 0))
+
+    refuses : (c : Call) (t q : ℕ) → Here t q → refusal (length (c .memory)) (c .budget) (lend (holding (reach m₀ t) q) (c .memory)) ≡ number c t
     unfolding refusal
     refuses c t q h = rw (sound h, reach-length m₀ t ∙ same-length, reach-cycles m₀ t no-cycles)
 
-    one : (c : Call) (t q : ℕ) → Here t q → Result c t q (call c (holding (reach m₀ t) q))
-    unfolding run
-    one c t q h = rw (refuses c t q h) (by-length (eqb (c .lent) n) refl)
+    -- a call is accepted, or refused with a number that it answers
+    abbrev Fate : Call → ℕ → ℕ → ℕ → Type 0
+    Fate c t q r = ((r ≡ 0) × Accepted n t c) ⊎ (Refused n t c × ((z : ℕ) × (r ≡ suc z) × Answers p n t q c (reply (suc z) 0) t q))
+
+    fate : (c : Call) (t q : ℕ) → Fate c t q (number c t)
+    fate c t q = by-length (eqb (length (c .memory)) n) refl
       where
-        m : Machine
-        m = holding (reach m₀ t) q
+        by-total : (b : Bool) → length (c .memory) ≡ n → c .budget ≤ 1000000 → ltb mostCycles (t + c .budget) ≡ b → Fate c t q (pick b 13 0)
+        by-total true l s e = let f : mostCycles < t + c .budget = ltb-true _ _ e in inr (λ a. omega (arith, a .near, f), (12, refl, too-far l s f))
+        by-total false l s e = inl (refl, record { lent = l; small = s; near = ltb-false _ _ e })
 
-        by-total : (b : Bool) → c .lent ≡ n → c .budget ≤ 1000000 → ltb mostCycles (t + c .budget) ≡ b → Result c t q (answered (pick b 13 0) (c .budget) m)
-        by-total true l s e = (t, q, too-far l s (ltb-true _ _ e), refl, h)
-        by-total false l s e = accept c t q (record { lent = l; small = s; near = ltb-false _ _ e }) h
-
-        by-budget : (b : Bool) → c .lent ≡ n → ltb 1000000 (c .budget) ≡ b
-            → Result c t q (answered (pick b 3 (pick (ltb mostCycles (t + c .budget)) 13 0)) (c .budget) m)
-        by-budget true l e = (t, q, too-many l (ltb-true _ _ e), refl, h)
+        by-budget : (b : Bool) → length (c .memory) ≡ n → ltb 1000000 (c .budget) ≡ b → Fate c t q (pick b 3 (pick (ltb mostCycles (t + c .budget)) 13 0))
+        by-budget true l e = let f : 1000000 < c .budget = ltb-true _ _ e in inr (λ a. omega (arith, a .small, f), (2, refl, too-many l f))
         by-budget false l e = by-total (ltb mostCycles (t + c .budget)) l (ltb-false _ _ e) refl
 
-        by-length : (b : Bool) → eqb (c .lent) n ≡ b
-            → Result c t q (answered (pick (not b) 12 (pick (ltb 1000000 (c .budget)) 3 (pick (ltb mostCycles (t + c .budget)) 13 0))) (c .budget) m)
+        by-length : (b : Bool) → eqb (length (c .memory)) n ≡ b
+            → Fate c t q (pick (not b) 12 (pick (ltb 1000000 (c .budget)) 3 (pick (ltb mostCycles (t + c .budget)) 13 0)))
         by-length true e = by-budget (ltb 1000000 (c .budget)) (eqb-true _ _ e) refl
-        by-length false e = (t, q, other-length (eqb-false _ _ e), refl, h)
+        by-length false e = inr (λ a. eqb-false _ _ e (a .lent), (11, refl, other-length (eqb-false _ _ e)))
 
-    all : (cs : List Call) (t q : ℕ) → Here t q
-        → (t′ : ℕ) × (q′ : ℕ) × AllAnswer p n t q cs (replies cs (holding (reach m₀ t) q)) t′ q′ × (calls cs (holding (reach m₀ t) q) ≡ holding (reach m₀ t′) q′) × Here t′ q′
-    unfolding replies calls
-    all [] t q h = (t, q, none, refl, h)
-    all (c ∷ cs) t q h =
-        let (t₁, q₁, a, e, h₁) = one c t q h in
-        let (t₂, q₂, b, e₂, h₂) = all cs t₁ q₁ h₁ in
-        rw e (t₂, q₂, more a b, e₂, h₂)
+    -- the core after t cycles, with its memory
+    abbrev At : Machine → ℕ → ℕ → Type 0
+    At m t q = (m ≡ holding (reach m₀ t) q) × Here t q
+
+    -- an accepted call, lent the memory
+    runs : (c : Call) (t q : ℕ) → number c t ≡ 0 → c .memory ≡ reach m₀ t .memory → Here t q
+        → repeated q (c .budget) (holding (reach m₀ t) q) ≡ call c (holding (reach m₀ t) q)
+    unfolding run
+    runs c t q z e h = rw (refuses c t q h, z, e)
+
+    one-accepted : (c : Call) (t q : ℕ) {m : Machine} → At m t q → Accepted n t c → c .memory ≡ m .memory → Reaches c t q (call c m) (t + call c m .used)
+    one-accepted c t q (i, h) a =
+        subst (λ m. c .memory ≡ m .memory → Reaches c t q (call c m) (t + call c m .used)) (sym i)
+        (λ e. ⊎-elim
+        (λ f.
+        let (t′, s, r) = subst (Result c t q) (runs c t q (f .0) e h) (accept c t q a h) in
+        subst (Reaches c t q (call c (holding (reach m₀ t) q))) s r)
+        (λ f. absurd (f .0 a))
+        (fate c t q))
+
+    -- a refused call, lent any bytes
+    record Back (c : Call) (t q : ℕ) (m : Machine) : Type 0 where
+      z : ℕ
+      answers : Answers p n t q c (reply (suc z) 0) t q
+      is : call c m ≡ ran (suc z) 0 (lend m (c .memory))
+
+    one-refused : (c : Call) (t q : ℕ) {m : Machine} → At m t q → Refused n t c → Back c t q m
+    unfolding run
+    one-refused c t q (i, h) x =
+        subst (Back c t q) (sym i)
+        (⊎-elim
+        (λ f. absurd (x (f .1)))
+        (λ f. let (z, e, a) = f .1 in record { z = z; answers = a; is = rw (refuses c t q h, e) })
+        (fate c t q))
+
+    all : {m m′ : Machine} {t t′ : ℕ} {cs : List Call} {rs : List Reply} (q : ℕ) → At m t q → Calls n m t cs rs m′ t′
+        → (q′ : ℕ) × AllAnswer p n t q cs rs t′ q′ × At m′ t′ q′
+    all q h no-calls = (q, none, h)
+    all {m} {m′} {t} {t′} q h (accepted {c = c} a e k) =
+        let (q₁, x, i, h₁) = one-accepted c t q h a e in
+        let (q₂, y, h₂) = all q₁ (i, h₁) k in
+        (q₂, more x y, h₂)
+    all {m} {m′} {t} {t′} q h (refused {c = c} x k) =
+        let b = one-refused c t q h x in
+        let (q₂, y, h₂) = all q (ap (λ (r : Ran). lend (r .machine) (m .memory)) (b .is) ∙ h .0, h .1) k in
+        (q₂, more (subst (λ r. Answers p n t q c (replyOf r) t q) (sym (b .is)) (b .answers)) y, h₂)
+
+    further : {m : Machine} {t q : ℕ} → At m t q → (c : Call) → Further n t m c
+    further {m} {t} {q} h c = record { kept = λ x. ap (λ (r : Ran). r .machine) (one-refused c t q h x .is); rises = rises (length (c .memory)) (c .budget) (lend m (c .memory)) }
+
+    -- 11 doesn't come up
+    answers-never : {t q t′ q′ : ℕ} {c : Call} {r : Reply} → Answers p n t q c r t′ q′ → Stop q → (r .answer ≡ 11 → ⊥) × Stop q′
+    answers-never (other-length l) s = ((λ e. omega arith), s)
+    answers-never (too-many l b) s = ((λ e. omega arith), s)
+    answers-never (too-far l b f) s = ((λ e. omega arith), s)
+    answers-never (repeats a z) s = ((λ e. ⊎-elim (λ x. omega arith) (λ x. omega (arith, x .0)) s), s)
+    answers-never (stops a z {t′ = t′} {q′ = q′} x l) s =
+        let m : Stop q′ = subst Stop (x .stop) (stop-met (trace p (x .k))) in
+        ((λ e. ⊎-elim (λ y. omega arith) (λ y. omega (arith, y .0)) m), m)
+    answers-never (spends a z e l) s = ((λ e. omega arith), inl refl)
+
+    all-never : {t q t′ q′ : ℕ} {cs : List Call} {rs : List Reply} → AllAnswer p n t q cs rs t′ q′ → Stop q → Never 11 rs
+    all-never none s = never-none
+    all-never (more a b) s = let x = answers-never a s in never-more (x .0) (all-never b (x .1))
 
     -- ---- what is left
 
@@ -327,6 +431,8 @@ module _ (p : plain.Machine) (m₀ : Machine) (r₀ : p .plain .a < 2 ^ 26) (s�
     leaves : {t q : ℕ} → Here t q → Leaves p m₀ (holding (reach m₀ t) q) t q
     leaves {t} {q} h = record {
       is = refl;
+      lengths = reach-alike m₀ t;
+      good = sound h;
       cycles = reach-cycles m₀ t no-cycles;
       stop = refl;
       retired = greatest (h .pos);
@@ -339,15 +445,14 @@ module _ (p : plain.Machine) (m₀ : Machine) (r₀ : p .plain .a < 2 ^ 26) (s�
       only = λ e. ⊎-elim (λ v. (h .pos .k, h .pos .does, sym (v .1))) (λ v. absurd (away-step1 (reach m₀ t .control .phase) (v .1 .off) e)) (view (h .pos));
     }
 
+    left : {m : Machine} {t q : ℕ} → At m t q → Leaves p m₀ m t q
+    left {m} {t} {q} h = subst (λ x. Leaves p m₀ x t q) (sym (h .0)) (leaves (h .1))
+
 -- ---- what an accepted start knows
 
-accepted : (b : Bool) (q : ℕ) {m : ℕ} → pick b (suc q) m ≡ 0 → (b ≡ false) × (m ≡ 0)
-accepted true q e = absurd (omega arith)
-accepted false q e = (refl, e)
-
-both-not : (b : Bool) → not b ≡ false → b ≡ true
-both-not true e = refl
-both-not false e = cc
+passed : (b : Bool) (q : ℕ) {m : ℕ} → pick b (suc q) m ≡ 0 → (b ≡ false) × (m ≡ 0)
+passed true q e = absurd (omega arith)
+passed false q e = (refl, e)
 
 record Start (n entry flags : ℕ) : Type 0 where
   length-good : badLength n ≡ false
@@ -359,24 +464,24 @@ record Start (n entry flags : ℕ) : Type 0 where
 start-good : (n entry flags : ℕ) → startAnswer n entry flags ≡ 0 → Start n entry flags
 unfolding startAnswer
 start-good n entry flags e =
-    let a = accepted (badLength n) 0 e in
-    let b = accepted (badEntry entry n) 1 (a .1) in
-    let c = accepted (badFlags flags) 3 (b .1) in
+    let a = passed (badLength n) 0 e in
+    let b = passed (badEntry entry n) 1 (a .1) in
+    let c = passed (badFlags flags) 3 (b .1) in
     let l = or-false (not (eqb (n % 4) 0) || ltb n 16) (a .0) in
     let i = or-false (not (eqb (entry % 4) 0)) (b .0) in
     record {
       length-good = a .0;
       short = ltb-false 65536 n (l .1);
-      aligned = eqb-true (entry % 4) 0 (both-not (eqb (entry % 4) 0) (i .0));
-      inside = ltb-true entry n (both-not (ltb entry n) (i .1));
+      aligned = eqb-true (entry % 4) 0 (not-false (eqb (entry % 4) 0) (i .0));
+      inside = ltb-true entry n (not-false (ltb entry n) (i .1));
       small = let h : flags ≤ 15 = ltb-false 15 flags (c .0) in omega arith;
     }
 
-module _ (g : List ℕ) (flags entry : ℕ) (mem : List ℕ) (a : Start (length mem) entry flags) where
-  begins : (r : plainFresh g flags entry mem .plain .a < 2 ^ 26) (s : plainFresh g flags entry mem .plain .length ≤ 65536)
-      → Here (plainFresh g flags entry mem) (fresh g flags entry mem) r s 0 0
-  unfolding reach trace sums durations fresh plainFresh
-  begins r s = record {
+module _ (g : List ℕ) (flags entry : ℕ) (mem : List ℕ) where
+  begins : Start (length mem) entry flags → (r : plainFresh g flags entry mem .plain .a < 2 ^ 26) (s : plainFresh g flags entry mem .plain .length ≤ 65536)
+      → Here (plainFresh g flags entry mem) (beginning g flags entry mem) r s 0 0
+  unfolding reach trace sums durations plainFresh
+  begins a r s = record {
     pos = record {
       k = 0;
       n = 2;
@@ -393,13 +498,42 @@ module _ (g : List ℕ) (flags entry : ℕ) (mem : List ℕ) (a : Start (length 
     stop = inl refl;
   }
 
+  -- an accepted start hands this back, and so does the plain machine's
+  start-hands : start g flags entry mem .answer ≡ 0 → beginning g flags entry mem ≡ fresh g flags entry mem
+  unfolding start fresh
+  start-hands e = rw e
+
+  plain-hands : start g flags entry mem .answer ≡ 0 → plain-calls.start g flags entry mem ≡ record { answer = 0; plain = plainFresh g flags entry mem .plain }
+  unfolding start plain-calls.start plainFresh
+  plain-hands e = rw e
+
+  abbrev Rest : Machine → Type 0
+  Rest m₀ =
+      (cs : List Call) (rs : List Reply) (m : Machine) (t : ℕ) → Calls (length mem) m₀ 0 cs rs m t
+      → (q : ℕ)
+      × AllAnswer (plainFresh g flags entry mem) (length mem) 0 0 cs rs t q
+      × Never 11 rs
+      × Leaves (plainFresh g flags entry mem) m₀ m t q
+      × ((c : Call) → Further (length mem) t m c)
+
+  rest : start g flags entry mem .answer ≡ 0 → Rest (beginning g flags entry mem)
+  unfolding start plainFresh reach
+  rest e cs rs m t calls =
+      let a = start-good (length mem) entry flags e in
+      let p = plainFresh g flags entry mem in
+      let m₀ = beginning g flags entry mem in
+      let r : p .plain .a < 2 ^ 26 = omega (arith, a .inside, a .short) in
+      let s : p .plain .length ≤ 65536 = a .short in
+      let (q, answers, h) = all p m₀ r s (length mem) (a .length-good) refl refl refl 0 (refl, begins a r s) calls in (
+        q,
+        answers,
+        all-never p m₀ r s (length mem) (a .length-good) refl refl refl answers (inl refl),
+        left p m₀ r s (length mem) (a .length-good) refl refl refl h,
+        further p m₀ r s (length mem) (a .length-good) refl refl refl h,
+      )
+
 -- Term 3
 pub term3 : Term3
-unfolding fresh plainFresh reach
-term3 g flags entry mem e cs =
-    let a = start-good (length mem) entry flags e in
-    let r : plainFresh g flags entry mem .plain .a < 2 ^ 26 = omega (arith, a .inside, a .short) in
-    let s : plainFresh g flags entry mem .plain .length ≤ 65536 = a .short in
-    let (t, q, answers, is, h) =
-    all (plainFresh g flags entry mem) (fresh g flags entry mem) r s (length mem) (a .length-good) refl refl refl cs 0 0 (begins g flags entry mem a r s) in
-    (t, q, answers, rw is (leaves (plainFresh g flags entry mem) (fresh g flags entry mem) r s (length mem) (a .length-good) refl refl refl h))
+term3 g flags entry mem e cs rs m t calls =
+    let (q, answers, never, leaves, further) = subst (Rest g flags entry mem) (start-hands g flags entry mem e) (rest g flags entry mem e) cs rs m t calls in
+    (plain-hands g flags entry mem e, q, answers, never, leaves, further)

@@ -1,6 +1,7 @@
 -- Term 3: what every list of run calls from a fresh core answers and leaves, in terms of the plain machine.
 use Prim.Native.Nat.{ℕ, zero, suc, _+_, _-_, _≤_, _<_}
 use mathlib.Core.Path.{_≡_}
+use mathlib.Core.Bool.{false}
 use mathlib.Core.List.{List, [], _∷_}
 use mathlib.Core.Logic.{_≢_, _⊎_}
 use lib.ListN.{length}
@@ -11,24 +12,25 @@ use Rattle.memory.specs.declared.Fetched.{Fetched}
 use Rattle.memory.specs.declared.Fetched.the-variants.{Word, Blank}
 use Rattle.semantics.specs.Effect.{ownSteps}
 use Rattle.plain.specs.Machine as plain
-use Rattle.plain.specs.Numbers.{startAnswer}
-use Rattle.plain.specs.Run.{begun}
+use Rattle.plain.specs.Run as plain-calls
 use Rattle.plain.specs.Trace.{trace, stopMet, durations}
 use Rattle.steps.specs.declared.Phase.{Phase}
 use Rattle.steps.specs.declared.Phase.the-variants.{Step1, Refill1, Refill2, Later}
 use Rattle.pipeline.specs.Machine.{Machine, machine, pipe, control}
 use Rattle.steps.specs.Steps.{idle}
-use Rattle.pipeline.specs.Numbers.{mostCycles}
+use Rattle.pipeline.specs.Numbers.{mostCycles, bad}
 use Rattle.pipeline.specs.Cycle.{cycle}
-use Rattle.pipeline.specs.Run.{freshControl, holding, Ran, run}
+use Rattle.pipeline.specs.Run.{start, holding, Ran, run}
 
 -- ---- the two machines from one start
 
+-- the core that a start hands back, with the memory that the start was lent
 unfoldable pub fresh : List ℕ → ℕ → ℕ → List ℕ → Machine
-fresh g flags entry mem = machine g (freshControl flags entry (length mem)) mem
+fresh g flags entry mem = let k = start g flags entry mem .core in machine (k .registers) (k .control) mem
 
+-- the plain machine with the same registers, flags, entry and memory
 unfoldable pub plainFresh : List ℕ → ℕ → ℕ → List ℕ → plain.Machine
-plainFresh g flags entry mem = plain.machine (begun g flags entry mem) mem
+plainFresh g flags entry mem = plain.machine (plain.plain g entry flags 0 (length mem)) mem
 
 -- 2 plus the durations of the plain machine's first k instructions
 unfoldable pub sums : plain.Machine → ℕ → ℕ
@@ -48,13 +50,18 @@ pub record Stops (p : plain.Machine) (t q : ℕ) : Type 0 where
 
 -- ---- a list of run calls
 
--- a run call: how many bytes are lent, and the budget
+-- a run call: the memory that it is lent, and the budget
 pub record Call : Type 0 where
-  pub lent : ℕ
+  pub memory : List ℕ
   pub budget : ℕ
 
+-- the core of m, lent these bytes
+abbrev pub lend : Machine → List ℕ → Machine
+lend m mem = machine (m .registers) (m .control) mem
+
+-- the call on the core of m: the memory is the call's and not m's
 abbrev pub call : Call → Machine → Ran
-call c m = run (c .lent) (c .budget) m
+call c m = run (length (c .memory)) (c .budget) (lend m (c .memory))
 
 pub record Reply : Type 0 where
   pub answer : ℕ
@@ -63,30 +70,39 @@ pub record Reply : Type 0 where
 abbrev pub reply : ℕ → ℕ → Reply
 reply answer used = record { answer = answer; used = used }
 
--- what the calls of a list leave, one after the other, and what they answer
-unfoldable pub calls : List Call → Machine → Machine
-calls [] m = m
-calls (c ∷ cs) m = calls cs (call c m .machine)
+abbrev pub replyOf : Ran → Reply
+replyOf r = reply (r .answer) (r .used)
 
-unfoldable pub replies : List Call → Machine → List Reply
-replies [] m = []
-replies (c ∷ cs) m = reply (call c m .answer) (call c m .used) ∷ replies cs (call c m .machine)
-
--- ---- what the calls answer
-
+-- a call that the rules accept at total t, after a start with n bytes, and one that they refuse
 pub record Accepted (n t : ℕ) (c : Call) : Type 0 where
-  pub lent : c .lent ≡ n
+  pub lent : length (c .memory) ≡ n
   pub small : c .budget ≤ 1000000
   pub near : t + c .budget ≤ mostCycles
+
+abbrev pub Refused : ℕ → ℕ → Call → Type 0
+Refused n t c = Accepted n t c → ⊥
+
+-- the calls of a list, one after the other, each on the core that the one before handed back: from m and t, with these replies, to m′ and t′.
+-- m is the core with its one memory, t the total: the cycles that accepted calls said they used
+pub data Calls (n : ℕ) : Machine → ℕ → List Call → List Reply → Machine → ℕ → Type 0 where
+  no-calls : {m : Machine} {t : ℕ} → Calls n m t [] [] m t
+  -- an accepted call is lent the memory as the accepted one before left it
+  accepted : {m m′ : Machine} {t t′ : ℕ} {c : Call} {cs : List Call} {rs : List Reply} → Accepted n t c → c .memory ≡ m .memory
+      → Calls n (call c m .machine) (t + call c m .used) cs rs m′ t′ → Calls n m t (c ∷ cs) (replyOf (call c m) ∷ rs) m′ t′
+  -- a refused call is lent any bytes, and the memory stays
+  refused : {m m′ : Machine} {t t′ : ℕ} {c : Call} {cs : List Call} {rs : List Reply} → Refused n t c
+      → Calls n (lend (call c m .machine) (m .memory)) t cs rs m′ t′ → Calls n m t (c ∷ cs) (replyOf (call c m) ∷ rs) m′ t′
+
+-- ---- what the calls answer
 
 -- at total t with stop q answered (0: none), a call answers this, and total and stop are then those at the end
 pub data Answers (p : plain.Machine) (n t q : ℕ) (c : Call) : Reply → ℕ → ℕ → Type 0 where
   -- the lent length isn't the start's
-  other-length : c .lent ≢ n → Answers p n t q c (reply 12 0) t q
+  other-length : length (c .memory) ≢ n → Answers p n t q c (reply 12 0) t q
   -- else the budget is above 1,000,000
-  too-many : c .lent ≡ n → 1000000 < c .budget → Answers p n t q c (reply 3 0) t q
+  too-many : length (c .memory) ≡ n → 1000000 < c .budget → Answers p n t q c (reply 3 0) t q
   -- else total plus budget is above 2^40
-  too-far : c .lent ≡ n → c .budget ≤ 1000000 → mostCycles < t + c .budget → Answers p n t q c (reply 13 0) t q
+  too-far : length (c .memory) ≡ n → c .budget ≤ 1000000 → mostCycles < t + c .budget → Answers p n t q c (reply 13 0) t q
   -- an accepted run repeats a stop answered earlier, with 0 cycles
   repeats : Accepted n t c → q ≢ 0 → Answers p n t q c (reply q 0) t q
   -- else, if the stop total is below total plus budget, it answers the plain machine's stop and uses the difference
@@ -99,6 +115,11 @@ pub data AllAnswer (p : plain.Machine) (n : ℕ) : ℕ → ℕ → List Call →
   none : {t q : ℕ} → AllAnswer p n t q [] [] t q
   more : {t q t₁ q₁ t₂ q₂ : ℕ} {c : Call} {r : Reply} {cs : List Call} {rs : List Reply}
       → Answers p n t q c r t₁ q₁ → AllAnswer p n t₁ q₁ cs rs t₂ q₂ → AllAnswer p n t q (c ∷ cs) (r ∷ rs) t₂ q₂
+
+-- no reply has this answer
+pub data Never (answer : ℕ) : List Reply → Type 0 where
+  never-none : Never answer []
+  never-more : {r : Reply} {rs : List Reply} → r .answer ≢ answer → Never answer rs → Never answer (r ∷ rs)
 
 -- ---- what the calls leave
 
@@ -148,6 +169,10 @@ lead m = leadIn (m .control .phase) (m .control .ix) (m .registers)
 pub record Leaves (p : plain.Machine) (m₀ m : Machine) (t q : ℕ) : Type 0 where
   -- what t cycles leave, holding the stop
   pub is : m ≡ holding (reach m₀ t) q
+  -- as many registers and bytes as at the start
+  pub lengths : (length (m .registers) ≡ length (m₀ .registers)) × (length (m .memory) ≡ length (m₀ .memory))
+  -- no bad record
+  pub good : bad (m .registers) (m .control) ≡ false
   pub cycles : m .control .cycles ≡ t
   pub stop : m .control .stop ≡ q
   pub retired : Greatest p t (m .control .retired)
@@ -158,9 +183,20 @@ pub record Leaves (p : plain.Machine) (m₀ m : Machine) (t q : ℕ) : Type 0 wh
   pub there : (k : ℕ) → Does p k → sums p k ≡ t → m ≡ holding (boundary (trace p k) k t) q
   pub only : m .control .phase ≡ Step1 → (k : ℕ) × Does p k × (sums p k ≡ t)
 
+-- what any call after the list does, whatever it is lent
+pub record Further (n t : ℕ) (m : Machine) (c : Call) : Type 0 where
+  -- a refused one hands back the core, and the bytes that it was lent, as they were
+  pub kept : Refused n t c → call c m .machine ≡ lend m (c .memory)
+  -- the core's cycles rise by those that it says it used
+  pub rises : call c m .machine .control .cycles ≡ m .control .cycles + call c m .used
+
 abbrev pub Term3 : Type 0
 Term3 =
-    (g : List ℕ) (flags entry : ℕ) (mem : List ℕ) → startAnswer (length mem) entry flags ≡ 0 → (cs : List Call)
-    → (t : ℕ) × (q : ℕ)
-    × AllAnswer (plainFresh g flags entry mem) (length mem) 0 0 cs (replies cs (fresh g flags entry mem)) t q
-    × Leaves (plainFresh g flags entry mem) (fresh g flags entry mem) (calls cs (fresh g flags entry mem)) t q
+    (g : List ℕ) (flags entry : ℕ) (mem : List ℕ) → start g flags entry mem .answer ≡ 0
+    → (cs : List Call) (rs : List Reply) (m : Machine) (t : ℕ) → Calls (length mem) (fresh g flags entry mem) 0 cs rs m t
+    → (plain-calls.start g flags entry mem ≡ record { answer = 0; plain = plainFresh g flags entry mem .plain })
+    × (q : ℕ)
+    × AllAnswer (plainFresh g flags entry mem) (length mem) 0 0 cs rs t q
+    × Never 11 rs
+    × Leaves (plainFresh g flags entry mem) (fresh g flags entry mem) m t q
+    × ((c : Call) → Further (length mem) t m c)

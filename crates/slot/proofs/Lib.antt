@@ -3,3 +3,4 @@ pub mod CoreLaws
 pub mod PlainLaws
 pub mod RecordLaws
 pub mod Calling
+pub mod Lists

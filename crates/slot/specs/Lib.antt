@@ -2,3 +2,4 @@ pub mod CoreArray
 pub mod PlainArray
 pub mod RecordArray
 pub mod Calls
+pub mod Lists

@@ -1,0 +1,107 @@
+-- Lists of C calls, proved: the array is the packed core all along, since no bad record comes up. Assumes nothing.
+use Prim.Native.Nat.{ℕ, _+_, _<_, _^_}
+use native.Mathlib.Omega.{arith}
+use mathlib.Core.Path.{_≡_, refl, sym, ap, subst, _∙_}
+use mathlib.Core.Bool.{true}
+use mathlib.Core.List.{List, [], _∷_, _++_}
+use lib.ListN.{length}
+use Rattle.memory.specs.declared.Fetched.{Fetched}
+use Rattle.memory.specs.declared.Fetched.the-variants.{Word, Blank}
+use Rattle.steps.specs.declared.Phase.the-variants.{Later}
+use Rattle.pipeline.specs.declared.Core.{Core}
+use Rattle.pipeline.specs.Machine.{Machine}
+use Rattle.pipeline.specs.Run.{Ran, core, start, run}
+use Rattle.pipeline.specs.Term3.{fresh, Call, lend, call, Reply, replyOf, Accepted, Refused, Calls, no-calls, accepted, refused}
+use Rattle.pipeline.proofs.Phases.{early}
+use Rattle.pipeline.proofs.Lists.{term3}
+use Rattle.slot.specs.CoreArray.{wordIn, validity, standsForFetched, packed, unpacked, standsForCore}
+use Rattle.slot.specs.Calls.{Called, coreStart, coreCalled, coreMachine, coreRun}
+use Rattle.slot.specs.Lists.{coreCall, coreReply, CoreCalls, no-core-calls, core-accepted, core-refused, Packs, CoreLists}
+use Rattle.slot.proofs.CoreLaws.{core-back}
+
+stands-fetched : (f : Fetched) → standsForFetched (wordIn f) (validity f) ≡ true
+stands-fetched (Word w) = refl
+stands-fetched Blank = refl
+
+stands-packed : (c : Core) → standsForCore (packed c) ≡ true
+unfolding packed standsForCore
+stands-packed c = rw (stands-fetched (c .control .ir1), stands-fetched (c .control .ir2), stands-fetched (c .control .ix))
+
+abbrev coreOf : Machine → Core
+coreOf m = core (m .registers) (m .control)
+
+-- a call on the array of a core that is read back
+packed-call : (c : Call) (m : Machine) → unpacked (packed (coreOf m)) ≡ coreOf m → coreCall c (packed (coreOf m)) ≡ coreCalled (call c m)
+unfolding coreRun
+packed-call c m e =
+    rw (stands-packed (coreOf m)) (ap (λ (k : Core). coreCalled (run (length (c .memory)) (c .budget) (coreMachine k (c .memory)))) e)
+
+-- a list and then another
+joined : {n t t₁ t₂ : ℕ} {m m₁ m₂ : Machine} {cs ds : List Call} {rs ss : List Reply} → Calls n m t cs rs m₁ t₁ → Calls n m₁ t₁ ds ss m₂ t₂
+    → Calls n m t (cs ++ ds) (rs ++ ss) m₂ t₂
+joined no-calls l = l
+joined (accepted a e k) l = accepted a e (joined k l)
+joined (refused x k) l = refused x (joined k l)
+
+module _ (g : List ℕ) (flags entry : ℕ) (mem : List ℕ) (l : length g ≡ 15) (s : start g flags entry mem .answer ≡ 0) where
+  abbrev Reached : Machine → ℕ → Type 0
+  Reached m t = (cs : List Call) × (rs : List Reply) × Calls (length mem) (fresh g flags entry mem) 0 cs rs m t
+
+  fresh-registers : length (fresh g flags entry mem .registers) ≡ 15
+  unfolding fresh start
+  fresh-registers = rw s l
+
+  read-back : (m : Machine) (t : ℕ) → Reached m t → unpacked (packed (coreOf m)) ≡ coreOf m
+  read-back m t (cs, rs, k) =
+      let (plain, q, answers, never, leaves, further) = term3 g flags entry mem s cs rs m t k in
+      core-back (coreOf m) (leaves .lengths .0 ∙ fresh-registers)
+      (λ i e. let h : i < 17 = early (m .registers) (m .control) (leaves .good) i e in omega arith)
+
+  one : (c : Call) (m : Machine) (t : ℕ) → Reached m t → {words : List ℕ} → words ≡ packed (coreOf m) → coreCall c words ≡ coreCalled (call c m)
+  one c m t r e = ap (coreCall c) e ∙ packed-call c m (read-back m t r)
+
+  all : {words words′ mem₁ mem′ : List ℕ} {t t′ : ℕ} {cs : List Call} {rs : List Reply} → CoreCalls (length mem) words mem₁ t cs rs words′ mem′ t′
+      → (m : Machine) → Reached m t → words ≡ packed (coreOf m) → mem₁ ≡ m .memory
+      → (m′ : Machine) × Calls (length mem) m t cs rs m′ t′ × Reached m′ t′ × (words′ ≡ packed (coreOf m′)) × (mem′ ≡ m′ .memory)
+  all no-core-calls m r e f = (m, no-calls, r, e, f)
+  all {words} {words′} {mem₁} {mem′} {t} {t′} (core-accepted {c = c} {cs = cs} {rs = rs} a x k) m r e f =
+      let n = length mem in
+      let o = one c m t r e in
+      let used = ap (λ (z : Called). z .used) o in
+      let m₁ = call c m .machine in
+      let y : c .memory ≡ m .memory = x ∙ f in
+      let (cs₀, rs₀, k₀) = r in
+      let r₁ : Reached m₁ (t + coreCall c words .used) =
+      subst (λ u. Reached m₁ (t + u)) (sym used) (cs₀ ++ (c ∷ []), rs₀ ++ (replyOf (call c m) ∷ []), joined k₀ (accepted a y no-calls)) in
+      let (m′, k′, r′, e′, f′) = all k m₁ r₁ (ap (λ (z : Called). z .words) o) (ap (λ (z : Called). z .memory) o) in
+      let k₁ : Calls n m₁ (t + call c m .used) cs rs m′ t′ = subst (λ u. Calls n m₁ (t + u) cs rs m′ t′) used k′ in
+      (m′, subst (λ z. Calls n m t (c ∷ cs) (z ∷ rs) m′ t′) (sym (ap coreReply o)) (accepted a y k₁), r′, e′, f′)
+  all {words} {words′} {mem₁} {mem′} {t} {t′} (core-refused {c = c} {cs = cs} {rs = rs} x k) m r e f =
+      let n = length mem in
+      let o = one c m t r e in
+      let m₁ = lend (call c m .machine) (m .memory) in
+      let (cs₀, rs₀, k₀) = r in
+      let r₁ : Reached m₁ t = (cs₀ ++ (c ∷ []), rs₀ ++ (replyOf (call c m) ∷ []), joined k₀ (refused x no-calls)) in
+      let (m′, k′, r′, e′, f′) = all k m₁ r₁ (ap (λ (z : Called). z .words) o) f in
+      (m′, subst (λ z. Calls n m t (c ∷ cs) (z ∷ rs) m′ t′) (sym (ap coreReply o)) (refused x k′), r′, e′, f′)
+
+pub core-lists : CoreLists
+unfolding coreStart fresh
+core-lists g flags entry mem l e cs rs words mem′ t k =
+    let (m, k′, r, a, b) = all g flags entry mem l e k (fresh g flags entry mem) ([], [], no-calls) refl refl in
+    let (plain, q, answers, never, leaves, further) = term3 g flags entry mem e cs rs m t k′ in
+    let does : (c : Call) → coreCall c words ≡ coreCalled (call c m) = λ c. one g flags entry mem l e c m t r a in (
+      e,
+      never,
+      m,
+      k′,
+      record {
+        array = a;
+        memory = b;
+        further = does;
+        kept = λ c x. (
+          ap (λ (z : Called). z .words) (does c) ∙ (ap (λ (z : Machine). packed (coreOf z)) (further c .kept x) ∙ sym a),
+          ap (λ (z : Called). z .memory) (does c) ∙ ap (λ (z : Machine). z .memory) (further c .kept x),
+        );
+      },
+    )

@@ -1,0 +1,47 @@
+-- Term 3 for the C calls: every list of them is a list of run calls, on arrays.
+use Prim.Native.Nat.{ℕ, _+_}
+use mathlib.Core.Path.{_≡_}
+use mathlib.Core.List.{List, [], _∷_}
+use lib.ListN.{length}
+use Rattle.pipeline.specs.Machine.{Machine}
+use Rattle.pipeline.specs.Run.{core, start}
+use Rattle.pipeline.specs.Term3.{fresh, Call, call, Reply, reply, Accepted, Refused, Calls, Never}
+use Rattle.slot.specs.CoreArray.{packed}
+use Rattle.slot.specs.Calls.{Called, coreStart, coreCalled, coreRun}
+
+abbrev pub coreCall : Call → List ℕ → Called
+coreCall c words = coreRun words (c .memory) (c .budget)
+
+abbrev pub coreReply : Called → Reply
+coreReply r = reply (r .answer) (r .used)
+
+-- the C calls of a list, one after the other, each on the array that the one before left, as `Calls` in the pipeline's Term3. mem is the
+-- core's one memory, t the total: the cycles that accepted calls said they used
+pub data CoreCalls (n : ℕ) : List ℕ → List ℕ → ℕ → List Call → List Reply → List ℕ → List ℕ → ℕ → Type 0 where
+  no-core-calls : {words mem : List ℕ} {t : ℕ} → CoreCalls n words mem t [] [] words mem t
+  -- an accepted call is lent the memory as the accepted one before left it
+  core-accepted : {words words′ mem mem′ : List ℕ} {t t′ : ℕ} {c : Call} {cs : List Call} {rs : List Reply} → Accepted n t c → c .memory ≡ mem
+      → CoreCalls n (coreCall c words .words) (coreCall c words .memory) (t + coreCall c words .used) cs rs words′ mem′ t′
+      → CoreCalls n words mem t (c ∷ cs) (coreReply (coreCall c words) ∷ rs) words′ mem′ t′
+  -- a refused call is lent any bytes, and the memory stays
+  core-refused : {words words′ mem mem′ : List ℕ} {t t′ : ℕ} {c : Call} {cs : List Call} {rs : List Reply} → Refused n t c
+      → CoreCalls n (coreCall c words .words) mem t cs rs words′ mem′ t′ → CoreCalls n words mem t (c ∷ cs) (coreReply (coreCall c words) ∷ rs) words′ mem′ t′
+
+-- array and memory are those of the core m. Any call after the list does what a run does; a refused one leaves the array and the bytes it was lent
+pub record Packs (n t : ℕ) (m : Machine) (words mem : List ℕ) : Type 0 where
+  pub array : words ≡ packed (core (m .registers) (m .control))
+  pub memory : mem ≡ m .memory
+  pub further : (c : Call) → coreCall c words ≡ coreCalled (call c m)
+  pub kept : (c : Call) → Refused n t c → (coreCall c words .words ≡ words) × (coreCall c words .memory ≡ c .memory)
+
+-- from an accepted start the replies and the total are those of the same list of run calls, which Term3 is about, and 11 is none of them
+abbrev pub CoreLists : Type 0
+CoreLists =
+    (g : List ℕ) (flags entry : ℕ) (mem : List ℕ) → length g ≡ 15 → coreStart g flags entry mem .answer ≡ 0
+    → (cs : List Call) (rs : List Reply) (words mem′ : List ℕ) (t : ℕ)
+    → CoreCalls (length mem) (coreStart g flags entry mem .words) mem 0 cs rs words mem′ t
+    → (start g flags entry mem .answer ≡ 0)
+    × Never 11 rs
+    × (m : Machine)
+    × Calls (length mem) (fresh g flags entry mem) 0 cs rs m t
+    × Packs (length mem) t m words mem′

@@ -1,0 +1,78 @@
+-- A block store has its named registers in memory afterwards, one a word, lowest first from its lowest address on.
+-- Assumes nothing.
+use mathlib.Core.Path.{_≡_, refl, _∙_}
+use mathlib.Core.Bool.{true}
+use mathlib.Core.List.{List, [], _∷_}
+use Prim.Native.Nat.{ℕ, zero, suc, _+_, _*_, _/_, _%_, _^_, _≤_, _<_}
+use native.Mathlib.Nat.{mod-eq-of-lt}
+use native.Mathlib.Omega.{arith}
+use lib.ListN.{length, getD}
+use borrow.Author.Tests.{lt-ltb}
+use Rattle.memory.specs.Memory.{wordBase, holdsWord, readWord, writeWord}
+use Rattle.memory.proofs.Laws.{read-other, read-back, write-length}
+use Rattle.transfer.specs.Single.{storedValue}
+use Rattle.transfer.specs.Block.{next, stores, storesAll}
+
+-- registers g, flags f and a12 store words; no address wraps
+module _ (g : List ℕ) (f a12 : ℕ) (words : (n : ℕ) → storedValue g n f a12 < 2 ^ 32) where
+  -- a word below the first is kept
+  kept-below : (xs : List ℕ) (a : ℕ) (mem : List ℕ) (b : ℕ) → b / 4 < a / 4 → a + 4 * length xs < 2 ^ 32
+      → readWord (stores xs g f a12 a mem) b ≡ readWord mem b
+  unfolding stores
+  kept-below [] a mem b h l = refl
+  kept-below (x ∷ xs) a mem b h l =
+      let e : next a ≡ a + 4 = mod-eq-of-lt (omega arith) in
+      rw e
+      (kept-below xs (a + 4) (writeWord mem a (storedValue g x f a12)) b (omega arith) (omega arith)
+      ∙ read-other mem a b (storedValue g x f a12) (λ (q : a / 4 ≡ b / 4). omega arith))
+
+  -- the word stored before the others
+  first-kept : (xs : List ℕ) (a v : ℕ) (mem : List ℕ) → a % 4 ≡ 0 → a + 4 * suc (length xs) ≤ length mem → length mem < 2 ^ 32 → v < 2 ^ 32
+      → readWord (stores xs g f a12 (next a) (writeWord mem a v)) a ≡ v
+  unfolding holdsWord
+  first-kept xs a v mem w i l bound =
+      let e : next a ≡ a + 4 = mod-eq-of-lt (omega arith) in
+      let held : holdsWord mem a ≡ true = lt-ltb (wordBase a + 3) (length mem) (omega arith) in
+      rw e (kept-below xs (a + 4) (writeWord mem a v) a (omega arith) (omega arith) ∙ read-back mem a v held bound)
+
+  pub stored-at : (xs : List ℕ) (a : ℕ) (mem : List ℕ) (k : ℕ) → k < length xs → a % 4 ≡ 0 → a + 4 * length xs ≤ length mem
+      → length mem < 2 ^ 32
+      → readWord (stores xs g f a12 a mem) (a + 4 * k) ≡ storedValue g (getD xs k 16) f a12
+  unfolding stores
+  stored-at [] a mem k h w i l = absurd (omega arith)
+  stored-at (x ∷ xs) a mem zero h w i l =
+      let e : a + 4 * 0 ≡ a = omega arith in
+      rw e (first-kept xs a (storedValue g x f a12) mem w i l (words x))
+  stored-at (x ∷ xs) a mem (suc k) h w i l =
+      let e : next a ≡ a + 4 = mod-eq-of-lt (omega arith) in
+      let d : a + 4 * suc k ≡ a + 4 + 4 * k = omega arith in
+      let same : length (writeWord mem a (storedValue g x f a12)) ≡ length mem = write-length mem a (storedValue g x f a12) in
+      rw (e, d)
+      (stored-at xs (a + 4) (writeWord mem a (storedValue g x f a12)) k (omega arith) (omega arith) (omega arith) (omega arith))
+
+-- a whole store: the lowest register as it was before the base is written, the others as they are after
+module _
+    (g h : List ℕ)
+    (f a12 : ℕ)
+    (words : (n : ℕ) → storedValue h n f a12 < 2 ^ 32)
+    (x : ℕ)
+    (xs : List ℕ)
+    (a : ℕ)
+    (mem : List ℕ)
+    (aligned : a % 4 ≡ 0)
+    (inside : a + 4 * suc (length xs) ≤ length mem)
+    (short : length mem < 2 ^ 32)
+  where
+    pub lowest-at : storedValue g x f a12 < 2 ^ 32 → readWord (storesAll (x ∷ xs) g h f a12 a mem) a ≡ storedValue g x f a12
+    unfolding storesAll
+    lowest-at word = first-kept h f a12 words xs a (storedValue g x f a12) mem aligned inside short word
+
+    pub other-at : (k : ℕ) → k < length xs
+        → readWord (storesAll (x ∷ xs) g h f a12 a mem) (a + 4 * suc k) ≡ storedValue h (getD xs k 16) f a12
+    unfolding storesAll
+    other-at k l =
+        let e : next a ≡ a + 4 = mod-eq-of-lt (omega arith) in
+        let d : a + 4 * suc k ≡ a + 4 + 4 * k = omega arith in
+        let same : length (writeWord mem a (storedValue g x f a12)) ≡ length mem = write-length mem a (storedValue g x f a12) in
+        rw (e, d)
+        (stored-at h f a12 words xs (a + 4) (writeWord mem a (storedValue g x f a12)) k l (omega arith) (omega arith) (omega arith))
