@@ -25,7 +25,7 @@ enum {
     SLOT_BAD_FLAGS = 4,     /* start: flags above 15 */
     SLOT_NO_WORD = 5,       /* write: the array stands for no record, or the record has no word */
     SLOT_BAD_RECORD = 11,   /* run: the array stands for no core, or for none that a run can be in */
-    SLOT_OTHER_MEMORY = 12, /* run: memory of another length than at the start */
+    SLOT_OTHER_MEMORY = 12, /* run: memory of another length than the array's; tested before 11 */
     SLOT_TOO_MANY = 13,     /* run: the budget would carry the cycles past 2^40 */
     SLOT_STOP_FIRST = 21,   /* run: 21 to 25 are stops; the array holds them, and later runs repeat them */
     SLOT_STOP_LAST = 25
@@ -100,10 +100,11 @@ uint32_t slot_core_start(uint32_t *core, const uint32_t *registers, uint32_t fla
                          const uint8_t *memory, size_t length);
 
 /* Runs at most `budget` cycles and sets *used to the cycles it counted. 0: the budget is spent; 21 to 25: the stop
- * that was found, or that the core holds. A refused run (3, 11, 12, 13) changes nothing and sets *used to 0. */
+ * that was found, or that the core holds. It tests 12, 11, 3, 13 in this order; a refused run writes neither the core
+ * nor the memory, and sets *used to 0. */
 uint32_t slot_core_run(uint32_t *core, uint8_t *memory, size_t length, uint64_t budget, uint64_t *used);
 
-/* The same for the plain machine, which has no pipeline: a run counts instructions. */
+/* The same for the plain machine, which has no pipeline: a run counts instructions, and tests 12, 11, 3. */
 uint32_t slot_plain_start(uint32_t *plain, const uint32_t *registers, uint32_t flags, uint32_t entry,
                           const uint8_t *memory, size_t length);
 uint32_t slot_plain_run(uint32_t *plain, uint8_t *memory, size_t length, uint64_t count, uint64_t *used);

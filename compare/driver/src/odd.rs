@@ -7,19 +7,15 @@ use interpreter::random::Random;
 
 /// Which words of an array mean what, as far as odd values go.
 pub trait Fields {
-    /// The field of the memory's length.
-    const LENGTH: usize;
     /// Fields that together decide whether a record is good.
     const TOGETHER: &'static [usize];
 }
 
 impl Fields for Core {
-    const LENGTH: usize = 32;
     const TOGETHER: &'static [usize] = &[15, 16, 17, 19, 21, 22, 23, 24, 25, 26, 27, 29, 31];
 }
 
 impl Fields for Plain {
-    const LENGTH: usize = 18;
     const TOGETHER: &'static [usize] = &[15, 16, 17, 18];
 }
 

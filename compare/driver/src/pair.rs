@@ -3,7 +3,7 @@
 use crate::archive::{self, CoreArray, PlainArray};
 use crate::difference::{CallDifference, Outcome};
 use crate::records;
-use interpreter::answers::BAD_RECORD;
+use interpreter::answers::{BAD_RECORD, OTHER_MEMORY};
 use interpreter::pipeline::Core;
 use interpreter::plain::Plain;
 
@@ -12,6 +12,8 @@ pub trait Machine: Clone {
     type Array: AsRef<[u32]> + AsMut<[u32]> + Clone + PartialEq;
     const KIND: &'static str;
     const NAMES: &'static [&'static str];
+    /// The index of the memory's length.
+    const LENGTH: usize;
 
     fn begin(r: [u32; 15], flags: u32, entry: u32, memory: &[u8]) -> (u32, Self);
     fn advance(self, memory: &mut [u8], budget: u64) -> (u32, u64, Self);
@@ -26,6 +28,7 @@ impl Machine for Core {
     type Array = CoreArray;
     const KIND: &'static str = "core";
     const NAMES: &'static [&'static str] = &records::CORE_NAMES;
+    const LENGTH: usize = 32;
 
     fn begin(r: [u32; 15], flags: u32, entry: u32, memory: &[u8]) -> (u32, Core) {
         Core::start(r, flags, entry, memory)
@@ -56,6 +59,7 @@ impl Machine for Plain {
     type Array = PlainArray;
     const KIND: &'static str = "plain machine";
     const NAMES: &'static [&'static str] = &records::PLAIN_NAMES;
+    const LENGTH: usize = 18;
 
     fn begin(r: [u32; 15], flags: u32, entry: u32, memory: &[u8]) -> (u32, Plain) {
         Plain::start(r, flags, entry, memory)
@@ -190,6 +194,10 @@ impl<M: Machine> Pair<M> {
                 let array = after.array();
                 self.expected = Some(after);
                 (answer, used, array)
+            }
+            // The paper's order: 12 before 11.
+            None if lent != before.as_ref()[M::LENGTH] as usize => {
+                (OTHER_MEMORY, 0, before.clone())
             }
             None => (BAD_RECORD, 0, before.clone()),
         };

@@ -3,17 +3,21 @@
 use mathlib.Core.Path.{_≡_, refl, sym, ap, _∙_}
 use mathlib.Core.Bool.{Bool, true, false}
 use mathlib.Core.Logic.{_≢_}
-use Prim.Native.Nat.{ℕ, _*_, _/_, _%_, _^_, _<_}
-use native.Mathlib.Nat.{one-mul, mod-eq-of-lt, mod-lt}
+use Prim.Native.Nat.{ℕ, _*_, _/_, _%_, _^_, _≤_, _<_}
+use native.Mathlib.Nat.{one-mul, mod-eq-of-lt, mod-lt, lt-of-lt-of-le}
 use native.Mathlib.Omega.{arith}
 use lib.Dec.{eqb}
-use lib.Pow.{pow-pos, pow-lt}
+use lib.Pow.{pow-pos, pow-lt, pow-mono}
 use borrow.Author.Tests.{eqb-true, eqb-false}
 use Rattle.bits.specs.Bits.{field, bit, num}
 
 -- 1 << k is 2 ^ k
 pub shl-one : (k : ℕ) → k < 32 → (1 * 2 ^ k) % 2 ^ 32 ≡ 2 ^ k
 shl-one k h = ap (λ (x : ℕ). x % 2 ^ 32) (one-mul (2 ^ k)) ∙ mod-eq-of-lt (pow-lt h)
+
+-- a word has no bit from 32 on
+pub word-lt : (w k : ℕ) → w < 2 ^ 32 → 32 ≤ k → w < 2 ^ k
+word-lt w k h l = lt-of-lt-of-le h (pow-mono l)
 
 pub field-lt : (w low k : ℕ) → field w low k < 2 ^ k
 unfolding field

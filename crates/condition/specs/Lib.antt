@@ -1,2 +1,3 @@
 pub mod Condition
 pub mod Table
+pub mod Comparisons

@@ -1,89 +1,79 @@
--- ASR is the floor of the signed number divided by 2^n, at every amount from 1 on.
+-- A word moved right and filled with its sign stands for the signed value divided, rounded down.
 -- Assumes nothing.
-use mathlib.Core.Path.{_≡_, refl, sym, ap, _∙_}
+use mathlib.Core.Path.{_≡_, sym, ap, _∙_}
 use mathlib.Core.Bool.{Bool, true, false}
-use Prim.Native.Nat.{ℕ, _+_, _-_, _*_, _/_, _%_, _^_, _≤_, _<_}
-use native.Mathlib.Nat.{add-mul-div-right}
+use Prim.Native.Nat.{ℕ, suc, _+_, _-_, _*_, _/_, _%_, _^_, _≤_, _<_}
+use native.Mathlib.Nat.{div-eq-of-lt, mod-lt}
 use native.Mathlib.Omega.{arith}
-use lib.Dec.{ltb}
-use lib.Pow.{pow-pos, pow-add, pow-mono, high, shr-le}
-use borrow.Author.Tests.{ltb-true, ltb-false}
-use Rattle.bits.specs.Choice.{pick}
+use lib.IntN.{ℤ, pos, negsuc}
+use lib.Pow.{pow-pos, pow-add, high, split, shl-shr, shr-le, shr-mono}
+use lib.Signed.{shrZ}
+use borrow.Author.Tests.{lt-ltb, le-ltb}
 use Rattle.bits.specs.Bits.{bit, field, num}
-use Rattle.bits.proofs.Fields.{num-bit}
-use Rattle.datapath.specs.Shifter.{shifted, signed, asr}
-use Rattle.datapath.proofs.Orders.{signedOf}
-use Rattle.datapath.proofs.Shifts.{shr-word-lt}
+use Rattle.bits.proofs.Fields.{num-bit, word-lt}
+use Rattle.datapath.specs.Shifter.{signed}
+use Rattle.datapath.specs.Signed.{signedValue}
+use Rattle.datapath.proofs.Moved.{room-le, room-even, shr-word-lt}
 
--- the floor of a signed number divided by 2^n, both 2^31 higher than they are: 2^31 * 2^n more makes 2^31 more
-abbrev pub floored : ℕ → ℕ → ℕ
-floored x n = (x + (2 ^ n - 1) * 2 ^ 31) / 2 ^ n
+clear : (w : ℕ) → w < 2 ^ 31 → signedValue w ≡ pos w
+clear w h = rw (lt-ltb w (2 ^ 31) h)
 
--- the number divided, where the sign is set (v is 2^31 above x) and where it is clear; m is 2^n, and p is 2^(32 - n)
-negative : (x m p c : ℕ) → 0 < m → m * p ≡ 2 ^ 32 → c + p ≡ 2 ^ 31 → x + (m - 1) * 2 ^ 31 ≡ (x + 2 ^ 31) + c * m
-negative x m p c h w e = omega (arith, ap (λ (k : ℕ). k * m) e)
+set : (w : ℕ) → 2 ^ 31 ≤ w → w < 2 ^ 32 → signedValue w ≡ negsuc (2 ^ 32 - suc w)
+set w l h = rw (le-ltb w (2 ^ 31) l, lt-ltb w (2 ^ 32) h)
 
-positive : (v m : ℕ) → 0 < m → (v + 2 ^ 31) + (m - 1) * 2 ^ 31 ≡ v + 2 ^ 31 * m
-positive v m h = omega arith
+-- v = q m + r and what it lacks to m p, both divided by m
+lacks : (v q r m p d : ℕ) → q * m + r ≡ v → r < m → d + suc q ≡ p → m * p ≡ 2 ^ 32 → 2 ^ 32 - suc v ≡ d * m + (m - suc r)
+lacks v q r m p d e l f w = omega (arith, ap (λ (k : ℕ). k * m) f)
 
-module _ (v n : ℕ) (h : v < 2 ^ 32) (s : 0 < n) (l : n < 32) where
-  below-32 : signedOf (signed v n) ≡ floored (signedOf v) n
+module _ (v n : ℕ) (h : v < 2 ^ 32) where
+  module _ (l : n < 32) where
+    q : v / 2 ^ n < 2 ^ (32 - n)
+    q = shr-word-lt v n h l
+
+    whole : 2 ^ n * 2 ^ (32 - n) ≡ 2 ^ 32
+    whole = let e : n + (32 - n) ≡ 32 = omega arith in sym (pow-add 2 n (32 - n)) ∙ ap (λ (k : ℕ). 2 ^ k) e
+
+    -- the top of what is left is the sign
+    top : 2 ^ 31 ≤ v → 2 ^ (32 - n) ≤ 2 * (v / 2 ^ n)
+    top s =
+        let e : 31 - n + n ≡ 31 = omega arith in
+        let half : 2 ^ 31 / 2 ^ n ≡ 2 ^ (31 - n) =
+        ap (λ (k : ℕ). 2 ^ k / 2 ^ n) (sym e) ∙ ap (λ (k : ℕ). k / 2 ^ n) (pow-add 2 (31 - n) n) ∙ shl-shr (2 ^ (31 - n)) n in
+        omega (arith, shr-mono n s, room-even n l)
+
+    pub below-32 : signedValue (signed v n) ≡ shrZ (signedValue v) (2 ^ n)
+    unfolding signed field
+    below-32 = go (bit v 31) (num-bit v 31)
+      where
+        go : (t : Bool) → num t ≡ v / 2 ^ 31 % 2 → signedValue (v / 2 ^ n + num t * (2 ^ 32 - 2 ^ (32 - n))) ≡ shrZ (signedValue v) (2 ^ n)
+        go true e =
+            let s : 2 ^ 31 ≤ v = omega arith in
+            let w = v / 2 ^ n + 1 * (2 ^ 32 - 2 ^ (32 - n)) in
+            let d = 2 ^ (32 - n) - suc (v / 2 ^ n) in
+            let r = v % 2 ^ n in
+            let f : 2 ^ 32 - suc v ≡ d * 2 ^ n + (2 ^ n - suc r) =
+            lacks v (v / 2 ^ n) r (2 ^ n) (2 ^ (32 - n)) d (split v n) (mod-lt v (pow-pos n)) (omega (arith, q)) whole in
+            let k : 2 ^ n - suc r < 2 ^ n = omega (arith, pow-pos n) in
+            let p : 2 ^ 32 - suc w ≡ (2 ^ 32 - suc v) / 2 ^ n = omega (arith, q, room-le n) ∙ sym (ap (λ (x : ℕ). x / 2 ^ n) f ∙ high d n k) in
+            set w (omega (arith, top s, room-le n)) (omega (arith, q, room-le n)) ∙ ap negsuc p ∙ sym (ap (λ (z : ℤ). shrZ z (2 ^ n)) (set v s h))
+        go false e =
+            let s : v < 2 ^ 31 = omega arith in
+            let w : v / 2 ^ n + 0 * (2 ^ 32 - 2 ^ (32 - n)) ≡ v / 2 ^ n = omega arith in
+            rw (w, clear v s) (clear (v / 2 ^ n) (omega (arith, shr-le v n)))
+
+  -- from 32 on nothing but sign is left: -1 or 0
+  pub from-32 : 32 ≤ n → signedValue (signed v 32) ≡ shrZ (signedValue v) (2 ^ n)
   unfolding signed field
-  below-32 = go (bit v 31) (num-bit v 31)
+  from-32 l = go (bit v 31) (num-bit v 31)
     where
-      q : v / 2 ^ n < 2 ^ (32 - n)
-      q = shr-word-lt v n h l
-
-      small : 2 ^ (32 - n) ≤ 2 ^ 31
-      small = let k : 32 - n ≤ 31 = omega arith in pow-mono k
-
-      whole : 2 ^ n * 2 ^ (32 - n) ≡ 2 ^ 32
-      whole = let e : n + (32 - n) ≡ 32 = omega arith in sym (pow-add 2 n (32 - n)) ∙ ap (λ (k : ℕ). 2 ^ k) e
-
-      go : (t : Bool) → num t ≡ v / 2 ^ 31 % 2 → signedOf (v / 2 ^ n + num t * (2 ^ 32 - 2 ^ (32 - n))) ≡ floored (signedOf v) n
-      go true e =
-          let c = 2 ^ 31 - 2 ^ (32 - n) in
-          let x : signedOf v + 2 ^ 31 ≡ v = omega arith in
-          let d : signedOf v + (2 ^ n - 1) * 2 ^ 31 ≡ v + c * 2 ^ n =
-          negative (signedOf v) (2 ^ n) (2 ^ (32 - n)) c (pow-pos n) whole (omega (arith, small)) ∙ ap (λ (y : ℕ). y + c * 2 ^ n) x in
-          let f : floored (signedOf v) n ≡ v / 2 ^ n + c = ap (λ (y : ℕ). y / 2 ^ n) d ∙ add-mul-div-right v c (pow-pos n) in
-          omega (arith, q, small)
-      go false e =
-          let x : signedOf v ≡ v + 2 ^ 31 = omega arith in
-          let d : signedOf v + (2 ^ n - 1) * 2 ^ 31 ≡ v + 2 ^ 31 * 2 ^ n =
-          ap (λ (y : ℕ). y + (2 ^ n - 1) * 2 ^ 31) x ∙ positive v (2 ^ n) (pow-pos n) in
-          let f : floored (signedOf v) n ≡ v / 2 ^ n + 2 ^ 31 = ap (λ (y : ℕ). y / 2 ^ n) d ∙ add-mul-div-right v (2 ^ 31) (pow-pos n) in
-          omega (arith, shr-le v n)
-
--- from 32 on nothing but sign is left: -1 or 0
-module _ (v n : ℕ) (h : v < 2 ^ 32) (l : 32 ≤ n) where
-  from-32 : signedOf (signed v 32) ≡ floored (signedOf v) n
-  unfolding signed field
-  from-32 = go (bit v 31) (num-bit v 31)
-    where
-      large : 2 ^ 32 ≤ 2 ^ n
-      large = pow-mono l
-
       none : v / 2 ^ 32 ≡ 0
       none = omega arith
 
-      at : (c y : ℕ) → y < 2 ^ n → signedOf v + (2 ^ n - 1) * 2 ^ 31 ≡ c * 2 ^ n + y → floored (signedOf v) n ≡ c
-      at c y k e = rw e (high c n k)
-
-      go : (t : Bool) → num t ≡ v / 2 ^ 31 % 2 → signedOf (v / 2 ^ 32 + num t * (2 ^ 32 - 1)) ≡ floored (signedOf v) n
+      go : (t : Bool) → num t ≡ v / 2 ^ 31 % 2 → signedValue (v / 2 ^ 32 + num t * (2 ^ 32 - 1)) ≡ shrZ (signedValue v) (2 ^ n)
       go true e =
-          let f : floored (signedOf v) n ≡ 2 ^ 31 - 1 =
-          at (2 ^ 31 - 1) (2 ^ n + signedOf v - 2 ^ 31) (omega (arith, large)) (omega (arith, large)) in
-          rw (none, f)
+          let s : 2 ^ 31 ≤ v = omega arith in
+          let k : 2 ^ 32 - suc v < 2 ^ n = word-lt _ n (omega arith) l in
+          rw (none, set v s h, div-eq-of-lt k)
       go false e =
-          let f : floored (signedOf v) n ≡ 2 ^ 31 = at (2 ^ 31) v (omega (arith, large)) (omega (arith, large)) in
-          rw (none, f)
-
-pub asr-floor : (v n : ℕ) → v < 2 ^ 32 → 0 < n → signedOf (asr v n .value) ≡ floored (signedOf v) n
-unfolding asr
-asr-floor v n h s = go (ltb n 32) refl
-  where
-    go : (t : Bool) → ltb n 32 ≡ t
-        → signedOf (pick t (shifted (signed v n) (bit v (n - 1))) (shifted (signed v 32) (bit v 31)) .value) ≡ floored (signedOf v) n
-    go true e = below-32 v n h s (ltb-true n 32 e)
-    go false e = from-32 v n h (ltb-false n 32 e)
+          let s : v < 2 ^ 31 = omega arith in
+          rw (none, clear v s, div-eq-of-lt (word-lt v n h l))

@@ -1,8 +1,11 @@
-pub mod Shifts
+pub mod Moved
 pub mod Flags
 pub mod Sums
 pub mod Counters
 pub mod Marked
+pub mod Integers
 pub mod Orders
+pub mod R15
 pub mod Rotations
 pub mod Floors
+pub mod Shifts

@@ -1,4 +1,4 @@
--- Rotated right by n places, each bit is the one n places above it, around the 32; and the rest of the 32 places undo it.
+-- Of a word turned right by n places, each bit is the one n places above it, around the 32.
 -- Assumes nothing.
 use mathlib.Core.Path.{_≡_, refl, sym, ap, subst}
 use mathlib.Core.Bool.{Bool, true, false}
@@ -7,24 +7,19 @@ use native.Mathlib.Nat.{add-comm, add-mul-div-right}
 use native.Mathlib.Omega.{arith}
 use lib.Dec.{ltb, eqb}
 use lib.Pow as Pow
-use lib.Pow.{pow-pos, pow-add, split, high, low, shr-shr, mod-mod-pow}
+use lib.Pow.{pow-pos, pow-add, high, shr-shr, mod-mod-pow}
 use borrow.Author.Tests.{ltb-true, ltb-false}
 use Rattle.bits.specs.Bits.{bit, field}
-use Rattle.datapath.specs.Shifter.{rotated}
-use Rattle.datapath.proofs.Shifts.{shr-word-lt}
+use Rattle.datapath.proofs.Moved.{turned, shr-word-lt}
 
--- v turned right by n places, around the n + k
-abbrev turned : ℕ → ℕ → ℕ → ℕ
-turned v n k = v / 2 ^ n + v % 2 ^ n * 2 ^ k
-
--- bit j of it comes from above, where k is more than j: k = i + 1 + j
+-- bit j comes from above, where k is more than j: k = i + 1 + j
 from-above : (v n i j : ℕ) → turned v n (i + 1 + j) / 2 ^ j % 2 ≡ v / 2 ^ (n + j) % 2
 from-above v n i j =
     let lo = v % 2 ^ n in
     let e : lo * 2 ^ (i + 1 + j) ≡ lo * 2 ^ i * 2 * 2 ^ j = rw (pow-add 2 (i + 1) j, pow-add 2 i 1) (omega arith) in
     rw (e, add-mul-div-right (v / 2 ^ n) (lo * 2 ^ i * 2) (pow-pos j), shr-shr v n j) (omega arith)
 
--- bit k + p of it comes around, where n is more than p: n = i + 1 + p
+-- bit k + p comes around, where n is more than p: n = i + 1 + p
 from-around : (v i p k : ℕ) → v / 2 ^ (i + 1 + p) < 2 ^ k → turned v (i + 1 + p) k / 2 ^ (k + p) % 2 ≡ v / 2 ^ p % 2
 from-around v i p k h =
     rw (
@@ -35,9 +30,9 @@ from-around v i p k h =
     )
     (mod-mod-pow (v / 2 ^ p) i 1)
 
-pub rotated-bit : (v n j : ℕ) → v < 2 ^ 32 → n < 32 → j < 32 → bit (rotated v n) j ≡ bit v ((n + j) % 32)
-unfolding rotated bit field
-rotated-bit v n j h l k = go (ltb (n + j) 32) refl
+pub turned-bit : (v n j : ℕ) → v < 2 ^ 32 → n < 32 → j < 32 → bit (turned v n (32 - n)) j ≡ bit v ((n + j) % 32)
+unfolding bit field
+turned-bit v n j h l k = go (ltb (n + j) 32) refl
   where
     go : (t : Bool) → ltb (n + j) 32 ≡ t → eqb (turned v n (32 - n) / 2 ^ j % 2) 1 ≡ eqb (v / 2 ^ ((n + j) % 32) % 2) 1
     go true e =
@@ -61,11 +56,3 @@ rotated-bit v n j h l k = go (ltb (n + j) 32) refl
         (subst (λ (m : ℕ). turned v n (32 - n) / 2 ^ m % 2 ≡ v / 2 ^ ((n + j) % 32) % 2) top
         (subst (λ (m : ℕ). turned v m (32 - n) / 2 ^ (32 - n + p) % 2 ≡ v / 2 ^ ((n + j) % 32) % 2) places
         (subst (λ (m : ℕ). turned v (i + 1 + p) (32 - n) / 2 ^ (32 - n + p) % 2 ≡ v / 2 ^ m % 2) place (from-around v i p (32 - n) bound))))
-
-pub rotated-back : (v n : ℕ) → v < 2 ^ 32 → 0 < n → n < 32 → rotated (rotated v n) (32 - n) ≡ v
-unfolding rotated
-rotated-back v n h s l =
-    let hi : v / 2 ^ n < 2 ^ (32 - n) = shr-word-lt v n h l in
-    let e : 32 - (32 - n) ≡ n = omega arith in
-    rw (e, add-comm (v / 2 ^ n) (v % 2 ^ n * 2 ^ (32 - n)), high (v % 2 ^ n) (32 - n) hi, low (v % 2 ^ n) (32 - n) hi)
-    (omega (arith, split v n))

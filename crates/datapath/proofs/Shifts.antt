@@ -1,77 +1,223 @@
--- The laws of shifted and rotated words.
+-- The shifts by arithmetic and by bits.
 -- Assumes nothing.
-use mathlib.Core.Path.{_≡_, subst}
-use mathlib.Core.Bool.{Bool, true, false, _&&_}
-use mathlib.Core.Logic.{⊎-elim}
+use mathlib.Core.Path.{_≡_, refl, sym, ap, _∙_}
+use mathlib.Core.Bool.{Bool, true, false}
 use Prim.Native.Nat.{ℕ, zero, suc, _+_, _-_, _*_, _/_, _%_, _^_, _≤_, _<_}
-use native.Mathlib.Nat.{add-zero, add-comm, mod-lt, mul-mod-left, eq-or-lt-of-le, ne-of-gt}
+use native.Mathlib.Nat.{add-zero, div-eq-of-lt, mod-lt, mod-mod, mod-add-mod, mul-assoc, mul-mod-left, mul-div-mul-right}
 use native.Mathlib.Omega.{arith}
-use lib.Dec.{leb, eqb}
-use lib.Arith.{digits-lt}
-use lib.Bits.{bitOr, or-self, or-shifted-r}
-use lib.Pow.{pow-pos, pow-add, shr-lt, shl-shr, mod-pow-add, ones-split, high, ones-lt}
-use borrow.Author.Tests.{lt-leb, ne-eqb}
+use lib.Dec.{ltb, leb, eqb, lit<}
+use lib.Pow as Pow
+use lib.Pow.{pow-pos, pow-add, shr-le}
+use lib.Signed.{shrZ}
+use borrow.Author.Tests.{ltb-true, ltb-false, leb-true, leb-false, ne-eqb}
 use Rattle.bits.specs.Choice.{pick}
-use Rattle.bits.specs.Bits.{bit, field}
-use Rattle.bits.proofs.Fields.{num-bit}
-use Rattle.datapath.specs.Shifter.{shifted, rotated, signed, ror}
+use Rattle.bits.specs.Bits.{bit, field, num}
+use Rattle.bits.proofs.Fields.{bit-of, word-lt}
+use Rattle.datapath.specs.Shifter.{shifted, rotated, signed, lsl, lsr, asr, ror, shift, constant}
+use Rattle.datapath.specs.Signed.{signedValue}
+use Rattle.datapath.specs.Shifts.{after, Shifts}
+use Rattle.datapath.proofs.Moved.{room-le, room-even, shr-word-lt, signed-whole, turned-word-lt}
+use Rattle.datapath.proofs.Rotations.{turned-bit}
+use Rattle.datapath.proofs.Floors.{below-32, from-32}
 
--- a word of j + k bits moved right by j places, and turned by them
-left-lt : (v j k : ℕ) → v < 2 ^ (j + k) → v / 2 ^ j < 2 ^ k
-left-lt v j k h = shr-lt k j (rw add-comm h)
+-- ---- LSL
 
-left-ones : (j k : ℕ) → (2 ^ (j + k) - 1) / 2 ^ j ≡ 2 ^ k - 1
-left-ones j k = rw (add-comm, ones-split) (high (2 ^ k - 1) j (ones-lt j))
+-- above 32 places all is moved out
+left-out : (v n : ℕ) → 32 ≤ n → v * 2 ^ n % 2 ^ 32 ≡ 0
+left-out v n h =
+    let e : n - 32 + 32 ≡ n = omega arith in
+    let f : v * 2 ^ n ≡ v * 2 ^ (n - 32) * 2 ^ 32 =
+    ap (λ (k : ℕ). v * 2 ^ k) (sym e) ∙ ap (λ (k : ℕ). v * k) (pow-add 2 (n - 32) 32) ∙ sym (mul-assoc v (2 ^ (n - 32)) (2 ^ 32)) in
+    ap (λ (k : ℕ). k % 2 ^ 32) f ∙ mul-mod-left (v * 2 ^ (n - 32)) (2 ^ 32)
 
-turned-or : (v j k : ℕ) → v < 2 ^ (j + k) → bitOr (v / 2 ^ j) (v * 2 ^ k % 2 ^ (j + k)) ≡ v / 2 ^ j + v % 2 ^ j * 2 ^ k
-turned-or v j k h =
-    let moved : v * 2 ^ k % 2 ^ (j + k) ≡ v % 2 ^ j * 2 ^ k = rw (mod-pow-add, shl-shr, mul-mod-left) (add-zero _) in
-    rw (moved, or-shifted-r (v % 2 ^ j) k (v / 2 ^ j) (left-lt v j k h)) (add-comm _ _)
+lsl-multiplies : (v n : ℕ) → lsl v n .value ≡ v * 2 ^ n % 2 ^ 32
+unfolding lsl
+lsl-multiplies v n = go (leb n 32) refl _
+  where
+    go : (t : Bool) → leb n 32 ≡ t → (c : Bool) → pick t (shifted (v * 2 ^ n % 2 ^ 32) c) (shifted 0 false) .value ≡ v * 2 ^ n % 2 ^ 32
+    go true e c = refl
+    go false e c = let l : 32 < n = leb-false n 32 e in sym (left-out v n (omega arith))
 
-turned-lt : (v j k : ℕ) → v < 2 ^ (j + k) → v / 2 ^ j + v % 2 ^ j * 2 ^ k < 2 ^ (j + k)
-turned-lt v j k h = rw (pow-add, add-comm) (digits-lt (mod-lt v (pow-pos j)) (left-lt v j k h))
+after-lsl : (v n : ℕ) → v < 2 ^ 32 → after lsl v n ≡ v * 2 ^ n % 2 ^ 32
+after-lsl v zero h = omega arith
+after-lsl v (suc n) h = lsl-multiplies v (suc n)
 
--- what holds of n + (32 - n) bits holds of 32
-at-32 : (P : ℕ → Type 0) (n : ℕ) → n < 32 → P (n + (32 - n)) → P 32
-at-32 P n l = let e : n + (32 - n) ≡ 32 = omega arith in subst P e
+-- bit 31 of a word moved left, at most 31 places
+left-bit : (v n : ℕ) → n < 32 → bit v (32 - suc n) ≡ bit (v * 2 ^ n % 2 ^ 32) 31
+unfolding bit field
+left-bit v n h =
+    let e : 32 - suc n + n ≡ 31 = omega arith in
+    let f : 2 ^ 31 ≡ 2 ^ (32 - suc n) * 2 ^ n = ap (λ (k : ℕ). 2 ^ k) (sym e) ∙ pow-add 2 (32 - suc n) n in
+    let g : v * 2 ^ n / 2 ^ 31 ≡ v / 2 ^ (32 - suc n) = ap (λ (k : ℕ). v * 2 ^ n / k) f ∙ mul-div-mul-right v (2 ^ (32 - suc n)) (pow-pos n) in
+    rw (Pow.field (v * 2 ^ n) 1 31, g, mod-mod)
 
-pub shr-word-lt : (v n : ℕ) → v < 2 ^ 32 → n < 32 → v / 2 ^ n < 2 ^ (32 - n)
-shr-word-lt v n h l = at-32 (λ (w : ℕ). v < 2 ^ w → v / 2 ^ n < 2 ^ (32 - n)) n l (left-lt v n (32 - n)) h
+lsl-carry : (v n : ℕ) → v < 2 ^ 32 → lsl v (suc n) .carry ≡ bit (after lsl v n) 31
+unfolding lsl bit field
+lsl-carry v n h = rw (after-lsl v n h) (go (leb (suc n) 32) refl _)
+  where
+    go : (t : Bool) → leb (suc n) 32 ≡ t → (x : ℕ) → pick t (shifted x (bit v (32 - suc n))) (shifted 0 false) .carry ≡ bit (v * 2 ^ n % 2 ^ 32) 31
+    go true e x = let l : suc n ≤ 32 = leb-true (suc n) 32 e in left-bit v n (omega arith)
+    go false e x = let l : 32 < suc n = leb-false (suc n) 32 e in rw (left-out v n (omega arith))
 
-pub shr-ones : (n : ℕ) → n < 32 → (2 ^ 32 - 1) / 2 ^ n ≡ 2 ^ (32 - n) - 1
-shr-ones n l = at-32 (λ (w : ℕ). (2 ^ w - 1) / 2 ^ n ≡ 2 ^ (32 - n) - 1) n l (left-ones n (32 - n))
+-- ---- LSR
 
-pub rotated-lt : (v n : ℕ) → v < 2 ^ 32 → n < 32 → rotated v n < 2 ^ 32
-unfolding rotated
-rotated-lt v n h l = at-32 (λ (w : ℕ). v < 2 ^ w → rotated v n < 2 ^ w) n l (turned-lt v n (32 - n)) h
+lsr-divides : (v n : ℕ) → v < 2 ^ 32 → lsr v n .value ≡ v / 2 ^ n
+unfolding lsr
+lsr-divides v n h = go (leb n 32) refl _
+  where
+    go : (t : Bool) → leb n 32 ≡ t → (c : Bool) → pick t (shifted (v / 2 ^ n) c) (shifted 0 false) .value ≡ v / 2 ^ n
+    go true e c = refl
+    go false e c = let l : 32 < n = leb-false n 32 e in sym (div-eq-of-lt (word-lt v n h (omega arith)))
 
-pub rotated-zero : (v : ℕ) → rotated v 0 ≡ v
-unfolding rotated
-rotated-zero v = omega arith
+after-lsr : (v n : ℕ) → v < 2 ^ 32 → after lsr v n ≡ v / 2 ^ n
+after-lsr v zero h = omega arith
+after-lsr v (suc n) h = lsr-divides v (suc n) h
 
--- the rotation as the code has it
-pub rotated-or : (v n : ℕ) → v < 2 ^ 32 → n < 32 → bitOr (v / 2 ^ n) (v * 2 ^ ((32 - n) % 32) % 2 ^ 32) ≡ rotated v n
-unfolding rotated
-rotated-or v zero h l = let e : v * 1 % 2 ^ 32 ≡ v / 1 = omega arith in rw (e, or-self) (omega arith)
-rotated-or v (suc n) h l =
-    let e : (32 - suc n) % 32 ≡ 32 - suc n = omega arith in
-    rw e
-    (at-32 (λ (w : ℕ). v < 2 ^ w → bitOr (v / 2 ^ suc n) (v * 2 ^ (32 - suc n) % 2 ^ w) ≡ rotated v (suc n)) (suc n) l (turned-or v (suc n) (32 - suc n)) h)
+-- bit n is bit 0 of what n places leave
+right-bit : (v n : ℕ) → bit v (suc n - 1) ≡ bit (v / 2 ^ n) 0
+unfolding bit field
+right-bit v n =
+    let e : suc n - 1 ≡ n = omega arith in
+    let f : v / 2 ^ n / 1 ≡ v / 2 ^ n = omega arith in
+    rw (e, f)
 
--- by n places, from 32 on, all is 0, and only by 32 is there a carry
-abbrev pub Out : (ℕ → ℕ) → (ℕ → Bool) → ℕ → Type 0
-Out value carry n = pick (leb n 32) (shifted (value n) (carry n)) (shifted 0 false) ≡ shifted 0 (eqb n 32 && carry 32)
+lsr-carry : (v n : ℕ) → v < 2 ^ 32 → lsr v (suc n) .carry ≡ bit (after lsr v n) 0
+unfolding lsr bit field
+lsr-carry v n h = rw (after-lsr v n h) (go (leb (suc n) 32) refl _)
+  where
+    go : (t : Bool) → leb (suc n) 32 ≡ t → (x : ℕ) → pick t (shifted x (bit v (suc n - 1))) (shifted 0 false) .carry ≡ bit (v / 2 ^ n) 0
+    go true e x = right-bit v n
+    go false e x = let l : 32 < suc n = leb-false (suc n) 32 e in rw (div-eq-of-lt (word-lt v n h (omega arith)))
 
-pub moved-out : (value : ℕ → ℕ) (carry : ℕ → Bool) (n : ℕ) → value 32 ≡ 0 → 32 ≤ n → Out value carry n
-moved-out value carry n e h =
-    ⊎-elim (λ (q : 32 ≡ n). subst (Out value carry) q (rw e)) (λ (l : 32 < n). simp (lt-leb n 32 l, ne-eqb n 32 (ne-of-gt l))) (eq-or-lt-of-le h)
+-- ---- ASR
 
--- 31 places leave nothing but sign
-pub signed-whole : (v : ℕ) → v < 2 ^ 32 → signed v 31 ≡ signed v 32
+asr-divides : (v n : ℕ) → v < 2 ^ 32 → signedValue (asr v n .value) ≡ shrZ (signedValue v) (2 ^ n)
+unfolding asr
+asr-divides v n h = go (ltb n 32) refl _ _
+  where
+    go : (t : Bool) → ltb n 32 ≡ t → (c d : Bool)
+        → signedValue (pick t (shifted (signed v n) c) (shifted (signed v 32) d) .value) ≡ shrZ (signedValue v) (2 ^ n)
+    go true e c d = below-32 v n h (ltb-true n 32 e)
+    go false e c d = from-32 v n h (ltb-false n 32 e)
+
+-- what the sign fills is even, below 32 places
+signed-even : (v n : ℕ) → n < 32 → bit (signed v n) 0 ≡ bit (v / 2 ^ n) 0
+unfolding signed bit field
+signed-even v n l = ap (λ (x : ℕ). eqb x 1) (go (eqb (v / 2 ^ 31 % 2) 1))
+  where
+    go : (t : Bool) → (v / 2 ^ n + num t * (2 ^ 32 - 2 ^ (32 - n))) / 1 % 2 ≡ v / 2 ^ n / 1 % 2
+    go true = omega (arith, room-even n l)
+    go false = omega arith
+
+-- by 32 places all is sign
+signed-all : (v : ℕ) → v < 2 ^ 32 → bit (signed v 32) 0 ≡ bit v 31
 unfolding signed field
-signed-whole v h = omega (arith, num-bit v 31)
+signed-all v h = bit-of (signed v 32) 0 (bit v 31) (go (bit v 31))
+  where
+    go : (t : Bool) → (v / 2 ^ 32 + num t * (2 ^ 32 - 1)) / 1 % 2 ≡ num t
+    go true = omega arith
+    go false = omega arith
 
--- ROR by a multiple of 32 keeps the value, carry bit 31
-pub ror-whole : (v n : ℕ) → n % 32 ≡ 0 → ror v n ≡ shifted v (bit v 31)
+module _ (v : ℕ) (h : v < 2 ^ 32) where
+  asr-low : (n : ℕ) → bit (asr v n .value) 0 ≡ pick (ltb n 32) (bit (v / 2 ^ n) 0) (bit v 31)
+  unfolding asr
+  asr-low n = go (ltb n 32) refl _ _
+    where
+      go : (t : Bool) → ltb n 32 ≡ t → (c d : Bool)
+          → bit (pick t (shifted (signed v n) c) (shifted (signed v 32) d) .value) 0 ≡ pick t (bit (v / 2 ^ n) 0) (bit v 31)
+      go true e c d = signed-even v n (ltb-true n 32 e)
+      go false e c d = signed-all v h
+
+  after-asr : (n : ℕ) → bit (after asr v n) 0 ≡ pick (ltb n 32) (bit (v / 2 ^ n) 0) (bit v 31)
+  after-asr zero = let e : v / 1 ≡ v = omega arith in rw e
+  after-asr (suc n) = asr-low (suc n)
+
+  asr-carry : (n : ℕ) → asr v (suc n) .carry ≡ bit (after asr v n) 0
+  unfolding asr
+  asr-carry n = rw (after-asr n) (go (ltb (suc n) 32) (ltb n 32) refl refl _ _)
+    where
+      go : (s t : Bool) → ltb (suc n) 32 ≡ s → ltb n 32 ≡ t → (x y : ℕ)
+          → pick s (shifted x (bit v (suc n - 1))) (shifted y (bit v 31)) .carry ≡ pick t (bit (v / 2 ^ n) 0) (bit v 31)
+      go true true d e x y = right-bit v n
+      go true false d e x y = absurd (omega (arith, ltb-true (suc n) 32 d, ltb-false n 32 e))
+      go false true d e x y =
+          let k : suc n - 1 ≡ 31 = omega (arith, ltb-false (suc n) 32 d, ltb-true n 32 e) in
+          sym (ap (bit v) k) ∙ right-bit v n
+      go false false d e x y = refl
+
+-- ---- ROR, and constants
+
+ror-bit : (v n j : ℕ) → v < 2 ^ 32 → j < 32 → bit (ror v n .value) j ≡ bit v ((n + j) % 32)
+unfolding ror rotated
+ror-bit v n j h k = turned-bit v (n % 32) j h (omega arith) k ∙ ap (bit v) (mod-add-mod n 32 j)
+
+after-ror : (v n : ℕ) → v < 2 ^ 32 → bit (after ror v n) 0 ≡ bit v (n % 32)
+after-ror v zero h = refl
+after-ror v (suc n) h = rw add-zero at (ror-bit v (suc n) 0 h (lit< tt))
+
+ror-carry : (v n : ℕ) → v < 2 ^ 32 → ror v (suc n) .carry ≡ bit (after ror v n) 0
 unfolding ror
-ror-whole v n e = rw (e, rotated-zero)
+ror-carry v n h =
+    let e : (suc n + 31) % 32 ≡ n % 32 = omega arith in
+    ror-bit v (suc n) 31 h (lit< tt) ∙ ap (bit v) e ∙ sym (after-ror v n h)
+
+ror-whole : (v n : ℕ) → n % 32 ≡ 0 → ror v n ≡ shifted v (bit v 31)
+unfolding ror rotated
+ror-whole v n e = let k : v / 1 + v % 1 * 2 ^ 32 ≡ v = omega arith in rw (e, k)
+
+constant-bit : (r v j : ℕ) (c : Bool) → v < 2 ^ 32 → j < 32 → bit (constant r v c .value) j ≡ bit v ((2 * r + j) % 32)
+unfolding constant
+constant-bit zero v j c h k = let e : (0 + j) % 32 ≡ j = omega arith in sym (ap (bit v) e)
+constant-bit (suc r) v j c h k = rw (ne-eqb (suc r) 0 (λ (e : suc r ≡ 0). omega arith)) (ror-bit v (2 * suc r) j h k)
+
+constant-carry : (r v : ℕ) (c : Bool) → 0 < r → constant r v c .carry ≡ bit (constant r v c .value) 31
+unfolding constant ror
+constant-carry r v c h = rw (ne-eqb r 0 (λ (e : r ≡ 0). omega arith))
+
+-- ---- every result is a word
+
+signed-lt : (v n : ℕ) → v < 2 ^ 32 → n < 32 → signed v n < 2 ^ 32
+unfolding signed
+signed-lt v n h l = go (bit v 31)
+  where
+    go : (t : Bool) → v / 2 ^ n + num t * (2 ^ 32 - 2 ^ (32 - n)) < 2 ^ 32
+    go true = omega (arith, shr-word-lt v n h l, room-le n)
+    go false = omega (arith, shr-le v n)
+
+asr-lt : (v n : ℕ) → v < 2 ^ 32 → asr v n .value < 2 ^ 32
+unfolding asr
+asr-lt v n h = go (ltb n 32) refl _ _
+  where
+    go : (t : Bool) → ltb n 32 ≡ t → (c d : Bool) → pick t (shifted (signed v n) c) (shifted (signed v 32) d) .value < 2 ^ 32
+    go true e c d = signed-lt v n h (ltb-true n 32 e)
+    go false e c d = rw (← (signed-whole v h)) (signed-lt v 31 h (lit< tt))
+
+ror-lt : (v n : ℕ) → v < 2 ^ 32 → ror v n .value < 2 ^ 32
+unfolding ror rotated
+ror-lt v n h = turned-word-lt v (n % 32) h (omega arith)
+
+words : (kind v n : ℕ) → v < 2 ^ 32 → shift kind v n .value < 2 ^ 32
+unfolding shift
+words kind v n h = go (eqb kind 0) (eqb kind 1) (eqb kind 2)
+  where
+    go : (a b c : Bool) → pick a (lsl v n) (pick b (lsr v n) (pick c (asr v n) (ror v n))) .value < 2 ^ 32
+    go true b c = rw (lsl-multiplies v n) (mod-lt (v * 2 ^ n) (pow-pos 32))
+    go false true c = rw (lsr-divides v n h) (omega (arith, shr-le v n))
+    go false false true = asr-lt v n h
+    go false false false = ror-lt v n h
+
+pub shifts : Shifts
+shifts = record {
+  words = words;
+  lsl-multiplies = lsl-multiplies;
+  lsr-divides = lsr-divides;
+  asr-divides = asr-divides;
+  ror-bit = ror-bit;
+  lsl-carry = lsl-carry;
+  lsr-carry = lsr-carry;
+  asr-carry = λ v n h. asr-carry v h n;
+  ror-carry = ror-carry;
+  ror-whole = ror-whole;
+  constant-bit = constant-bit;
+  constant-carry = constant-carry;
+}

@@ -5,10 +5,14 @@ use Prim.Native.Nat.{ℕ, _+_, _*_, _/_, _%_, _^_}
 unfoldable pub ahead : ℕ → ℕ → ℕ
 ahead a n = (a + n) % 2 ^ 26
 
+-- bits 25..2 of a word, at their places
+abbrev pub counterBits : ℕ → ℕ
+counterBits word = word / 4 % 2 ^ 24 * 4
+
 -- the counter that a word stores: its bits 25..2
 unfoldable pub counter : ℕ → ℕ
-counter word = word / 4 % 2 ^ 24 * 4
+counter word = counterBits word
 
--- an R15 word: flags in bits 31..28 with a counter
+-- an R15 word: flags in bits 31..28 with bits 25..2 of a counter value, and 0 in the other four
 unfoldable pub r15Word : ℕ → ℕ → ℕ
-r15Word flags a = flags % 16 * 2 ^ 28 + a % 2 ^ 26
+r15Word flags a = flags % 16 * 2 ^ 28 + counterBits a

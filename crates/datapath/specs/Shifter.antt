@@ -9,9 +9,9 @@ use Rattle.datapath.specs.declared.Shifted.{Shifted}
 abbrev pub shifted : ℕ → Bool → Shifted
 shifted v c = record { value = v; carry = c }
 
--- v rotated right by n places, n below 32
+-- v rotated right by n places, which count modulo 32
 unfoldable pub rotated : ℕ → ℕ → ℕ
-rotated v n = v / 2 ^ n + v % 2 ^ n * 2 ^ (32 - n)
+rotated v n = let places = n % 32 in v / 2 ^ places + v % 2 ^ places * 2 ^ (32 - places)
 
 -- v moved right by n places, at most 32, which its sign fills
 unfoldable pub signed : ℕ → ℕ → ℕ
@@ -28,9 +28,9 @@ lsr v n = pick (leb n 32) (shifted (v / 2 ^ n) (bit v (n - 1))) (shifted 0 false
 unfoldable pub asr : ℕ → ℕ → Shifted
 asr v n = pick (ltb n 32) (shifted (signed v n) (bit v (n - 1))) (shifted (signed v 32) (bit v 31))
 
--- the amount modulo 32; the carry is bit 31 of the result, also where a multiple of 32 keeps the value
+-- the carry is bit 31 of the result, also where a multiple of 32 keeps the value
 unfoldable pub ror : ℕ → ℕ → Shifted
-ror v n = shifted (rotated v (n % 32)) (bit (rotated v (n % 32)) 31)
+ror v n = shifted (rotated v n) (bit (rotated v n) 31)
 
 -- bits 6..5 of a word: LSL, LSR, ASR, ROR
 unfoldable pub shift : ℕ → ℕ → ℕ → Shifted

@@ -16,9 +16,9 @@ pub fn counter(word: u32) -> u32
     word / 4 % 0x1000000 * 4
 }
 
-// Flags in bits 31..28 with a counter.
+// Flags in bits 31..28 with a counter value's bits 25..2, and 0 in the other four.
 pub fn r15_word(flags: u32, a: u32) -> u32
     ensures { λ r. ⌜ r ≡ r15Word flags a ⌝ }
 {
-    flags % 16 * 0x10000000 + a % 0x4000000
+    flags % 16 * 0x10000000 + counter(a)
 }

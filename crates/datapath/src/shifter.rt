@@ -5,12 +5,12 @@ ghost use Rattle.bits.specs.Bits.{num};
 ghost use Rattle.datapath.specs.Shifter.{rotated, signed, lsl, lsr, asr, ror, shift, zeroAmount, byRegister, byAmount, constant};
 use super::Shifted;
 
-// Rotated right. The places are modulo 32 on the way left, so that 0 of them need no test.
+// Rotated right. The places are modulo 32 on the way left too, so that 0 of them need no test.
 pub fn rotate(v: u32, n: u32) -> u32
-    requires { ⌜ n < 32 ⌝ }
     ensures { λ r. ⌜ r ≡ rotated v n ⌝ }
 {
-    (v >> n) | (v << ((32 - n) % 32))
+    let places = n % 32;
+    (v >> places) | (v << ((32 - places) % 32))
 }
 
 // Moved right, and filled with the sign.
@@ -80,7 +80,7 @@ fn asr(v: u32, n: u32) -> Shifted
 fn ror(v: u32, n: u32) -> Shifted
     ensures { λ r. ⌜ r ≡ ror v n ⌝ }
 {
-    let value = rotate(v, n % 32);
+    let value = rotate(v, n);
     Shifted {
         value,
         carry: bits::bit(value, 31),

@@ -1,53 +1,62 @@
--- The byte of an address is the byte of its word that the low two bits of the address name, the lowest first.
+-- The byte of an address is a byte of its word, in reads and after writes.
 -- Assumes nothing.
 use mathlib.Core.Path.{_≡_, refl, sym, ap, _∙_}
 use mathlib.Core.Bool.{true}
 use mathlib.Core.List.{List}
-use Prim.Native.Nat.{ℕ, zero, suc, _+_, _*_, _/_, _%_, _^_, _<_}
+use Prim.Native.Nat.{ℕ, zero, suc, _+_, _/_, _%_, _^_, _<_}
 use native.Mathlib.Omega.{arith}
 use lib.ListN.{length, getD}
-use Rattle.memory.specs.Memory.{wordBase, holdsWord, loadWord, readWord, readByte, writeByte}
-use Rattle.memory.proofs.Laws.{Bytes, read-held, holds-word, holds-length, holds-same-word, held-lt, read-same-word, byte-other-byte, write-byte-length, write-byte-bytes, read-byte-back}
+use Rattle.bits.specs.Bits.{field}
+use Rattle.memory.specs.Memory.{wordBase, holdsWord, loadWord, readWord, writeWord, readByte, writeByte}
+use Rattle.memory.specs.Lanes.{lane, Bytes, Lanes}
+use Rattle.memory.proofs.Laws.{read-held, read-same-word, holds-word, write-length, write-byte-length, write-bytes, write-byte-bytes, byte-other, byte-other-byte, read-back, read-byte-back}
 
--- byte k of a word, the first the lowest
-abbrev pub lane : ℕ → ℕ → ℕ
-lane word k = word / 2 ^ (8 * k) % 256
+-- the bytes of the word at a place
+lanes-at : (mem : List ℕ) → Bytes mem → (at k : ℕ) → k < 4 → getD mem (at + k) 0 ≡ lane (loadWord mem at) k
+unfolding field
+lanes-at mem bytes at k h = go k h (bytes at) (bytes (at + 1)) (bytes (at + 2)) (bytes (at + 3))
+  where
+    go : (k : ℕ) → k < 4 → getD mem at 0 < 256 → getD mem (at + 1) 0 < 256 → getD mem (at + 2) 0 < 256 → getD mem (at + 3) 0 < 256
+        → getD mem (at + k) 0 ≡ lane (loadWord mem at) k
+    go zero h h0 h1 h2 h3 = let e : at + 0 ≡ at = omega arith in rw e (omega arith)
+    go (suc zero) h h0 h1 h2 h3 = omega arith
+    go (suc (suc zero)) h h0 h1 h2 h3 = omega arith
+    go (suc (suc (suc zero))) h h0 h1 h2 h3 = omega arith
+    go (suc (suc (suc (suc k)))) h h0 h1 h2 h3 = absurd (omega arith)
 
-module _ (mem : List ℕ) (bytes : Bytes mem) where
-  -- the bytes of the word at a place
-  lanes : (at k : ℕ) → k < 4 → getD mem (at + k) 0 ≡ lane (loadWord mem at) k
-  lanes at k h = go k h (bytes at) (bytes (at + 1)) (bytes (at + 2)) (bytes (at + 3))
-    where
-      go : (k : ℕ) → k < 4 → getD mem at 0 < 256 → getD mem (at + 1) 0 < 256 → getD mem (at + 2) 0 < 256 → getD mem (at + 3) 0 < 256
-          → getD mem (at + k) 0 ≡ lane (loadWord mem at) k
-      go zero h h0 h1 h2 h3 = let e : at + 0 ≡ at = omega arith in rw e (omega arith)
-      go (suc zero) h h0 h1 h2 h3 = omega arith
-      go (suc (suc zero)) h h0 h1 h2 h3 = omega arith
-      go (suc (suc (suc zero))) h h0 h1 h2 h3 = omega arith
-      go (suc (suc (suc (suc k)))) h h0 h1 h2 h3 = absurd (omega arith)
+-- a memory that is as long as one of whole words
+module _ (mem : List ℕ) (bytes : Bytes mem) (whole : length mem % 4 ≡ 0) where
+  held : (m : List ℕ) (a : ℕ) → length m ≡ length mem → a < length mem → holdsWord m a ≡ true
+  held m a e h = holds-word m a (omega arith) (omega arith)
 
-  pub byte-of-word : (a : ℕ) → holdsWord mem a ≡ true → readByte mem a ≡ lane (readWord mem a) (a % 4)
+  read : (m : List ℕ) (a : ℕ) → Bytes m → length m ≡ length mem → a < length mem → readByte m a ≡ lane (readWord m a) (a % 4)
   unfolding readByte
-  byte-of-word a h =
+  read m a b l h =
       let e : a ≡ wordBase a + a % 4 = omega arith in
-      rw (read-held mem a h) (ap (λ (x : ℕ). getD mem x 0) e ∙ lanes (wordBase a) (a % 4) (omega arith))
+      rw (read-held m a (held m a l h)) (ap (λ (x : ℕ). getD m x 0) e ∙ lanes-at m b (wordBase a) (a % 4) (omega arith))
 
--- of an address inside a memory of whole words
-pub byte-inside : (mem : List ℕ) (a : ℕ) → Bytes mem → a < length mem → length mem % 4 ≡ 0
-    → readByte mem a ≡ readWord mem a / 2 ^ (8 * (a % 4)) % 256
-byte-inside mem a bytes h whole = byte-of-word mem bytes a (holds-word mem a h whole)
+  module _ (a : ℕ) (h : a < length mem) where
+    written : (b v : ℕ) → a / 4 ≡ b / 4 → v < 2 ^ 32 → readByte (writeWord mem a v) b ≡ lane v (b % 4)
+    written b v e l =
+        read (writeWord mem a v) b (write-bytes mem a v bytes) (write-length mem a v) (omega arith)
+        ∙ ap (λ (w : ℕ). lane w (b % 4))
+        (sym (read-same-word (writeWord mem a v) a b e) ∙ read-back mem a v (held mem a refl h) l)
 
--- a stored byte changes that byte of the word, and no other
-module _ (mem : List ℕ) (a v : ℕ) (bytes : Bytes mem) (h : holdsWord mem a ≡ true) where
-  after : (b : ℕ) → a / 4 ≡ b / 4 → readByte (writeByte mem a v) b ≡ lane (readWord (writeByte mem a v) a) (b % 4)
-  after b e =
-      rw (read-same-word (writeByte mem a v) a b e)
-      (byte-of-word (writeByte mem a v) (write-byte-bytes mem a v bytes) b (holds-length (writeByte mem a v) mem b (write-byte-length mem a v) ∙ sym (holds-same-word mem a b e) ∙ h))
+    after : (b v : ℕ) → b < length mem → readByte (writeByte mem a v) b ≡ lane (readWord (writeByte mem a v) b) (b % 4)
+    after b v k = read (writeByte mem a v) b (write-byte-bytes mem a v bytes) (write-byte-length mem a v) k
 
-  pub stored-lane : lane (readWord (writeByte mem a v) a) (a % 4) ≡ v % 256
-  stored-lane = sym (after a refl) ∙ read-byte-back mem a v (omega (arith, held-lt mem a h))
+    stored : (v : ℕ) → lane (readWord (writeByte mem a v) a) (a % 4) ≡ lane v 0
+    unfolding field
+    stored v = sym (after a v h) ∙ read-byte-back mem a v h ∙ omega arith
 
-  pub kept-lane : (b : ℕ) → a / 4 ≡ b / 4 → (a ≡ b → ⊥) → lane (readWord (writeByte mem a v) a) (b % 4) ≡ lane (readWord mem a) (b % 4)
-  kept-lane b e n =
-      sym (after b e) ∙ byte-other-byte mem a b v n
-      ∙ rw (read-same-word mem a b e) (byte-of-word mem bytes b (sym (holds-same-word mem a b e) ∙ h))
+    kept : (b v : ℕ) → b < length mem → (a ≡ b → ⊥) → lane (readWord (writeByte mem a v) b) (b % 4) ≡ lane (readWord mem b) (b % 4)
+    kept b v k n = sym (after b v k) ∙ byte-other-byte mem a b v n ∙ read mem b bytes refl k
+
+pub lanes : Lanes
+lanes mem a bytes whole h = record {
+  read = read mem bytes whole mem a bytes refl h;
+  written = written mem bytes whole a h;
+  unwritten = λ b v n. byte-other mem a b v n;
+  stored = stored mem bytes whole a h;
+  kept = kept mem bytes whole a h;
+}

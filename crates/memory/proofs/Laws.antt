@@ -14,6 +14,7 @@ use lib.Seq.{getD-set-same, getD-set-other, lt-length-set, set-out}
 use borrow.Author.Tests.{lt-ltb, ltb-true, ltb-false, eqb-true, eqb-false}
 use Rattle.bits.specs.Choice.{pick}
 use Rattle.memory.specs.declared.Fetched.the-variants.{Word, Blank}
+use Rattle.memory.specs.Lanes.{Bytes}
 use Rattle.memory.specs.Memory.{wordBase, holdsWord, little, loadWord, storeWord, readWord, writeWord, readByte, writeByte, wordAt}
 
 -- ---- the word of an address, inside memory or not
@@ -173,10 +174,6 @@ unfolding readByte writeByte
 read-byte-back mem a v h = getD-set-same mem a (v % 256) 0 h
 
 -- ---- sizes: a memory of bytes stays one, and its words are below 2 ^ 32
-
--- each element is a byte
-abbrev pub Bytes : List ℕ → Type 0
-Bytes mem = (k : ℕ) → getD mem k 0 < 256
 
 set-bytes : (mem : List ℕ) (i x : ℕ) → Bytes mem → Bytes (set mem i (x % 256))
 set-bytes mem i x bytes k = go (eqb k i) refl (ltb i (length mem)) refl

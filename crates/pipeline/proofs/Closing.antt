@@ -22,7 +22,7 @@ use Rattle.steps.specs.declared.Step.{Step}
 use Rattle.pipeline.specs.declared.Piped.{Piped}
 use Rattle.pipeline.specs.Machine.{Machine, machine, Pipe, pipe, pipeOf, latchesOf, control}
 use Rattle.steps.specs.Steps.{Latches, latches, Own, still, first, later}
-use Rattle.pipeline.specs.Cycle.{retires, ownOf, fetches, turned, phaseAfter, retiredBy, close, cycle}
+use Rattle.pipeline.specs.Cycle.{retires, skips, ownOf, fetches, turned, phaseAfter, retiredBy, close, cycle}
 use Rattle.pipeline.specs.View.{piped}
 use Rattle.steps.specs.View.{stepped}
 
@@ -40,9 +40,9 @@ module _ (w : ℕ) (g : List ℕ) (f pc : ℕ) (l : Latches) (mem : List ℕ) {r
   unfolding ownOf
   passing t q = q ∙ rw (← e, ← p, t)
 
-  pub failing : b ≡ false → r ≡ still g f mem (Done 1) → r ≡ ownOf Step1 (Word w) g f pc l mem
+  pub failing : b ≡ false → {a : After} → a ≡ skips pc → r ≡ still g f mem a → r ≡ ownOf Step1 (Word w) g f pc l mem
   unfolding ownOf
-  failing t q = q ∙ rw (← e, ← p, t)
+  failing t d q = q ∙ ap (still g f mem) d ∙ rw (← e, ← p, t)
 
 module _ (g : List ℕ) (f pc : ℕ) (l : Latches) (mem : List ℕ) {r : Own} where
   pub blank-first : r ≡ still g f mem (Done 0) → r ≡ ownOf Step1 Blank g f pc l mem
@@ -102,8 +102,8 @@ module _ (s : Step) (p : Piped) (c : Control) (g mem : List ℕ) where
   closes-more ph e = ended (More ph) e
 
   pub closes-done : (n : ℕ) {retired : ℕ} → s .after ≡ Done n → retired ≡ retiredBy (Done n) (c .retired)
-      → closing (piped p (p .ir2)) Step1 retired ≡ close (stepped s g mem) (piped p (c .ix)) c
-  closes-done n e k = ap (λ (x : ℕ). closing (piped p (p .ir2)) Step1 x) k ∙ ended (Done n) e
+      → closing (turned (Done n) (piped p (c .ix))) Step1 retired ≡ close (stepped s g mem) (piped p (c .ix)) c
+  closes-done n e k = ap (λ (x : ℕ). closing (turned (Done n) (piped p (c .ix))) Step1 x) k ∙ ended (Done n) e
 
   pub closes-jump : (word : ℕ) {to : ℕ} → s .after ≡ Jump word → to ≡ counter word
       → closing (pipe to (p .ir1) (p .ir2) (c .ix)) Refill1 (c .retired) ≡ close (stepped s g mem) (piped p (c .ix)) c

@@ -1,6 +1,7 @@
 pub mod Closing
 pub mod Refusals
 pub mod Turns
+pub mod AtOnce
 pub mod Kept
 pub mod Flight
 pub mod Instruction
@@ -13,3 +14,4 @@ pub mod Lists
 pub mod WholeSteps
 pub mod Skips
 pub mod Marked
+pub mod Tables

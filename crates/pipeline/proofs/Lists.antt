@@ -10,26 +10,25 @@ use native.Mathlib.Decide.{decLt}
 use native.Mathlib.Nat.{eq-or-lt-of-le, le-of-suc-le-suc}
 use lib.ListN.{length}
 use lib.Dec.{ltb, leb, eqb}
-use borrow.Author.Tests.{lt-ltb, le-ltb, le-leb, eq-eqb, ltb-true, ltb-false, eqb-true, eqb-false}
+use borrow.Author.Tests.{lt-ltb, le-ltb, le-leb, eq-eqb, ne-eqb, ltb-true, ltb-false, eqb-true, eqb-false}
 use Rattle.bits.specs.Choice.{pick}
 use Rattle.plain.specs.Machine as plain
-use Rattle.plain.specs.Numbers.{badLength, badEntry, badFlags, isStop, startAnswer}
+use Rattle.plain.specs.Numbers.{badLength, isStop, startAnswer}
 use Rattle.plain.specs.Run as plain-calls
-use Rattle.plain.specs.Trace.{trace, stopMet, duration, durations}
+use Rattle.plain.specs.Trace.{trace, stopMet, duration, durations, Does}
+use Rattle.plain.proofs.Accepted as plain-start
 use Rattle.steps.specs.declared.Phase.{Phase}
 use Rattle.steps.specs.declared.Phase.the-variants.{Step1, Refill1, Refill2, Later}
 use Rattle.pipeline.specs.Machine.{Machine}
 use Rattle.pipeline.specs.Cycle.{cycle}
 use Rattle.pipeline.specs.Numbers.{stopFound, heldAway, badPhase, mostCycles, bad, refusal}
 use Rattle.pipeline.specs.Run.{start, holding, Ran, ran, oneMore, runFrom, repeated, answered, run}
-use Rattle.pipeline.specs.Term3.{fresh, plainFresh, sums, Does, Stops, Call, lend, call, Reply, reply, replyOf, Accepted, Refused, Calls, no-calls, accepted, refused, Answers, other-length, too-many, too-far, repeats, stops, spends, AllAnswer, none, more, Never, never-none, never-more}
-use Rattle.pipeline.specs.Term3.{reach, boundary, Greatest, lead, Leaves, Further, Term3}
-use Rattle.pipeline.proofs.Kept.{or-false}
+use Rattle.pipeline.specs.Term3.{fresh, plainFresh, Begins, sums, Stops, Call, lend, call, Reply, reply, replyOf, Accepted, Refused, Calls, no-calls, accepted, refused, Answers, other-length, too-many, too-far, repeats, stops, spends, AllAnswer, none, more, Never, never-none, never-more}
+use Rattle.pipeline.specs.Term3.{reach, boundary, Greatest, lead, Leaves, Further, Follows, Term3}
 use Rattle.pipeline.proofs.Lengths.{reach-alike}
-use Rattle.pipeline.proofs.Phases.{not-false}
 use Rattle.pipeline.proofs.Flight.{away, Aloft, Flight}
 use Rattle.pipeline.proofs.PlainSteps.{duration-flight, flight, Stop, stop-met}
-use Rattle.pipeline.proofs.Position.{Pos, advance, beginning, started, boundary-stop, sums-step, ranged, away-quiet}
+use Rattle.pipeline.proofs.Position.{Pos, advance, beginning, plainBeginning, started, boundary-stop, sums-step, ranged, away-quiet}
 
 reach-stop : (m : Machine) (t : ℕ) → reach m t .control .stop ≡ m .control .stop
 unfolding reach cycle
@@ -265,7 +264,7 @@ module _ (p : plain.Machine) (m₀ : Machine) (r₀ : p .plain .a < 2 ^ 26) (s�
           omega (arith, x .sum),
           (
             suc (x .q),
-            stops a refl z (omega (arith, x .less, x .sum)),
+            stops a refl z (omega (arith, x .sum)) (omega (arith, x .less, x .sum)),
             refl,
             record { pos = x .pos; small = omega (arith, x .less, x .sum, a .near); stop = inr (x .at, x .stop) },
           ),
@@ -359,7 +358,7 @@ module _ (p : plain.Machine) (m₀ : Machine) (r₀ : p .plain .a < 2 ^ 26) (s�
     answers-never (too-many l b) s = ((λ e. omega arith), s)
     answers-never (too-far l b f) s = ((λ e. omega arith), s)
     answers-never (repeats a z) s = ((λ e. ⊎-elim (λ x. omega arith) (λ x. omega (arith, x .0)) s), s)
-    answers-never (stops a z {t′ = t′} {q′ = q′} x l) s =
+    answers-never (stops a z {t′ = t′} {q′ = q′} x g l) s =
         let m : Stop q′ = subst Stop (x .stop) (stop-met (trace p (x .k))) in
         ((λ e. ⊎-elim (λ y. omega arith) (λ y. omega (arith, y .0)) m), m)
     answers-never (spends a z e l) s = ((λ e. omega arith), inl refl)
@@ -448,39 +447,30 @@ module _ (p : plain.Machine) (m₀ : Machine) (r₀ : p .plain .a < 2 ^ 26) (s�
     left : {m : Machine} {t q : ℕ} → At m t q → Leaves p m₀ m t q
     left {m} {t} {q} h = subst (λ x. Leaves p m₀ x t q) (sym (h .0)) (leaves (h .1))
 
--- ---- what an accepted start knows
-
-passed : (b : Bool) (q : ℕ) {m : ℕ} → pick b (suc q) m ≡ 0 → (b ≡ false) × (m ≡ 0)
-passed true q e = absurd (omega arith)
-passed false q e = (refl, e)
-
-record Start (n entry flags : ℕ) : Type 0 where
-  length-good : badLength n ≡ false
-  short : n ≤ 65536
-  aligned : entry % 4 ≡ 0
-  inside : entry < n
-  small : flags < 16
-
-start-good : (n entry flags : ℕ) → startAnswer n entry flags ≡ 0 → Start n entry flags
-unfolding startAnswer
-start-good n entry flags e =
-    let a = passed (badLength n) 0 e in
-    let b = passed (badEntry entry n) 1 (a .1) in
-    let c = passed (badFlags flags) 3 (b .1) in
-    let l = or-false (not (eqb (n % 4) 0) || ltb n 16) (a .0) in
-    let i = or-false (not (eqb (entry % 4) 0)) (b .0) in
-    record {
-      length-good = a .0;
-      short = ltb-false 65536 n (l .1);
-      aligned = eqb-true (entry % 4) 0 (not-false (eqb (entry % 4) 0) (i .0));
-      inside = ltb-true entry n (not-false (ltb entry n) (i .1));
-      small = let h : flags ≤ 15 = ltb-false 15 flags (c .0) in omega arith;
-    }
+-- ---- a start
 
 module _ (g : List ℕ) (flags entry : ℕ) (mem : List ℕ) where
-  begins : Start (length mem) entry flags → (r : plainFresh g flags entry mem .plain .a < 2 ^ 26) (s : plainFresh g flags entry mem .plain .length ≤ 65536)
-      → Here (plainFresh g flags entry mem) (beginning g flags entry mem) r s 0 0
-  unfolding reach trace sums durations plainFresh
+  -- what accepted starts hand back
+  start-hands : start g flags entry mem .answer ≡ 0 → beginning g flags entry mem ≡ fresh g flags entry mem
+  unfolding start fresh
+  start-hands e = rw e
+
+  plain-hands : start g flags entry mem .answer ≡ 0 → plainBeginning g flags entry mem ≡ plainFresh g flags entry mem
+  unfolding start plain-calls.start plainFresh
+  plain-hands e = rw e
+
+  begun : Begins g flags entry mem
+  unfolding start plain-calls.start
+  begun = record {
+    answer = plain-start.starts (length mem) entry flags;
+    alike = refl;
+    given = λ e. sym (plain-hands e);
+    refused = λ x. (rw (ne-eqb (startAnswer (length mem) entry flags) 0 x), rw (ne-eqb (startAnswer (length mem) entry flags) 0 x));
+  }
+
+  begins : plain-start.Accepted (length mem) entry flags → (r : plainBeginning g flags entry mem .plain .a < 2 ^ 26) (s : plainBeginning g flags entry mem .plain .length ≤ 65536)
+      → Here (plainBeginning g flags entry mem) (beginning g flags entry mem) r s 0 0
+  unfolding reach trace sums durations
   begins a r s = record {
     pos = record {
       k = 0;
@@ -492,48 +482,38 @@ module _ (g : List ℕ) (flags entry : ℕ) (mem : List ℕ) where
       flying = started g flags entry mem;
       counted = refl;
       bound = omega arith;
-      sound = record { short = s; range = r; aligned = a .aligned; flags = a .small; counts = omega arith; fine = refl };
+      sound = record { short = s; range = r; aligned = a .placed .aligned; flags = omega (arith, a .small); counts = omega arith; fine = refl };
     };
     small = omega arith;
     stop = inl refl;
   }
 
-  -- an accepted start hands this back, and so does the plain machine's
-  start-hands : start g flags entry mem .answer ≡ 0 → beginning g flags entry mem ≡ fresh g flags entry mem
-  unfolding start fresh
-  start-hands e = rw e
+  abbrev Lists : plain.Machine → Machine → Type 0
+  Lists p m₀ = (cs : List Call) (rs : List Reply) (m : Machine) (t : ℕ) → Calls (length mem) m₀ 0 cs rs m t → Follows p m₀ (length mem) cs rs m t
 
-  plain-hands : start g flags entry mem .answer ≡ 0 → plain-calls.start g flags entry mem ≡ record { answer = 0; plain = plainFresh g flags entry mem .plain }
-  unfolding start plain-calls.start plainFresh
-  plain-hands e = rw e
-
-  abbrev Rest : Machine → Type 0
-  Rest m₀ =
-      (cs : List Call) (rs : List Reply) (m : Machine) (t : ℕ) → Calls (length mem) m₀ 0 cs rs m t
-      → (q : ℕ)
-      × AllAnswer (plainFresh g flags entry mem) (length mem) 0 0 cs rs t q
-      × Never 11 rs
-      × Leaves (plainFresh g flags entry mem) m₀ m t q
-      × ((c : Call) → Further (length mem) t m c)
-
-  rest : start g flags entry mem .answer ≡ 0 → Rest (beginning g flags entry mem)
-  unfolding start plainFresh reach
-  rest e cs rs m t calls =
-      let a = start-good (length mem) entry flags e in
-      let p = plainFresh g flags entry mem in
+  from-beginning : start g flags entry mem .answer ≡ 0 → Lists (plainBeginning g flags entry mem) (beginning g flags entry mem)
+  unfolding start reach
+  from-beginning e cs rs m t calls =
+      let a = plain-start.given (length mem) entry flags e in
+      let p = plainBeginning g flags entry mem in
       let m₀ = beginning g flags entry mem in
-      let r : p .plain .a < 2 ^ 26 = omega (arith, a .inside, a .short) in
-      let s : p .plain .length ≤ 65536 = a .short in
-      let (q, answers, h) = all p m₀ r s (length mem) (a .length-good) refl refl refl 0 (refl, begins a r s) calls in (
-        q,
-        answers,
-        all-never p m₀ r s (length mem) (a .length-good) refl refl refl answers (inl refl),
-        left p m₀ r s (length mem) (a .length-good) refl refl refl h,
-        further p m₀ r s (length mem) (a .length-good) refl refl refl h,
-      )
+      let r : p .plain .a < 2 ^ 26 = omega (arith, a .placed .inside, a .sized .most) in
+      let s : p .plain .length ≤ 65536 = a .sized .most in
+      let l : badLength (length mem) ≡ false = plain-start.length-good (length mem) (a .sized) in
+      let (q, answers, h) = all p m₀ r s (length mem) l refl refl refl 0 (refl, begins a r s) calls in
+      record {
+        stop = q;
+        answers = answers;
+        never = all-never p m₀ r s (length mem) l refl refl refl answers (inl refl);
+        leaves = left p m₀ r s (length mem) l refl refl refl h;
+        further = further p m₀ r s (length mem) l refl refl refl h;
+      }
 
 -- Term 3
 pub term3 : Term3
-term3 g flags entry mem e cs rs m t calls =
-    let (q, answers, never, leaves, further) = subst (Rest g flags entry mem) (start-hands g flags entry mem e) (rest g flags entry mem e) cs rs m t calls in
-    (plain-hands g flags entry mem e, q, answers, never, leaves, further)
+term3 = record {
+  starts = begun;
+  lists = λ g flags entry mem e.
+      subst (λ p. Lists g flags entry mem p (fresh g flags entry mem)) (plain-hands g flags entry mem e)
+      (subst (Lists g flags entry mem (plainBeginning g flags entry mem)) (start-hands g flags entry mem e) (from-beginning g flags entry mem e));
+}

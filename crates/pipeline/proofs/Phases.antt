@@ -1,12 +1,12 @@
 -- A record that isn't bad is in no step above the eighteenth.
 -- Assumes nothing.
 use Prim.Native.Nat.{ℕ, suc, _<_}
-use mathlib.Core.Path.{_≡_, refl, sym, subst}
-use mathlib.Core.Bool.{Bool, true, false, not, false≢true}
+use mathlib.Core.Path.{_≡_, sym, subst}
+use mathlib.Core.Bool.{false, not, false≢true}
 use mathlib.Core.List.{List}
 use native.Mathlib.Omega.{arith}
 use lib.Dec.{eqb, ltb}
-use borrow.Author.Tests.{ltb-true}
+use borrow.Author.Tests.{ltb-true, not-false}
 use Rattle.bits.specs.Bits.{field}
 use Rattle.word.specs.Reader.{readOf}
 use Rattle.word.specs.Writer.{isOther}
@@ -22,10 +22,6 @@ use Rattle.steps.specs.declared.Phase.the-variants.{Later}
 use Rattle.pipeline.specs.declared.Control.{Control}
 use Rattle.pipeline.specs.Numbers.{badWordStep, badStep, badPhase, heldAway, mostCycles, bad}
 use Rattle.pipeline.proofs.Kept.{or-false}
-
-pub not-false : (b : Bool) → not b ≡ false → b ≡ true
-not-false true e = refl
-not-false false e = absurd (false≢true (sym e))
 
 phase-good : (g : List ℕ) (c : Control) → bad g c ≡ false → badPhase (c .phase) g c ≡ false
 unfolding bad

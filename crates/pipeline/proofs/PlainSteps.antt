@@ -122,7 +122,7 @@ among : (b : Bool) (q m : ℕ) → 21 ≤ q → q ≤ 25 → Stop m → Stop (pi
 among true q m h k o = inr (h, k)
 among false q m h k o = o
 
-stop-for : (x : Fetched) (g : List ℕ) (f a : ℕ) (board : Board) → Stop (stopFor x g f a board)
+pub stop-for : (x : Fetched) (g : List ℕ) (f a : ℕ) (board : Board) → Stop (stopFor x g f a board)
 unfolding stopFor stops.stopOf stops.movedStop
 stop-for Blank g f a board = inr (omega arith, omega arith)
 stop-for (Word w) g f a board = go (passes (field w 28 4) f)

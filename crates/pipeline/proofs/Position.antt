@@ -10,14 +10,14 @@ use native.Mathlib.Nat.{eq-or-lt-of-le, le-of-suc-le-suc}
 use lib.ListN.{length}
 use Rattle.datapath.specs.Counter.{ahead}
 use Rattle.plain.specs.Machine as plain
-use Rattle.plain.specs.Trace.{trace, stopMet, duration, durations}
+use Rattle.plain.specs.Trace.{trace, stopMet, duration, durations, Does}
 use Rattle.steps.specs.declared.Phase.{Phase}
 use Rattle.steps.specs.declared.Phase.the-variants.{Step1, Refill1, Refill2, Later}
 use Rattle.pipeline.specs.Machine.{Machine, machine}
 use Rattle.pipeline.specs.Cycle.{cycle, ownOf}
 use Rattle.pipeline.specs.Numbers.{atStep1, stopFound}
 use Rattle.pipeline.specs.Run.{freshControl}
-use Rattle.pipeline.specs.Term3.{plainFresh, sums, Does, reach, boundary, lead}
+use Rattle.pipeline.specs.Term3.{sums, reach, boundary, lead}
 use Rattle.pipeline.proofs.Flight.{away, Flight, climb, turn44}
 use Rattle.pipeline.proofs.Instruction.{behind-ahead}
 use Rattle.pipeline.proofs.PlainSteps.{stop-is, flight, duration-flight, flight-short, instruction, step-range, step-length}
@@ -27,14 +27,17 @@ pub climb-add : (n t : ℕ) → climb n t ≡ t + n
 climb-add zero t = omega arith
 climb-add (suc n) t = omega (arith, climb-add n (suc t))
 
--- what an accepted start hands back
+-- what accepted starts hand back
 abbrev pub beginning : List ℕ → ℕ → ℕ → List ℕ → Machine
 beginning g flags entry mem = machine g (freshControl flags entry (length mem)) mem
 
+abbrev pub plainBeginning : List ℕ → ℕ → ℕ → List ℕ → plain.Machine
+plainBeginning g flags entry mem = plain.machine (plain.plain g entry flags 0 (length mem)) mem
+
 -- the start's two refills
 pub started : (g : List ℕ) (flags entry : ℕ) (mem : List ℕ)
-    → Flight 0 0 2 (beginning g flags entry mem) (boundary (plainFresh g flags entry mem) 0 2)
-unfolding cycle ownOf boundary plainFresh lead
+    → Flight 0 0 2 (beginning g flags entry mem) (boundary (plainBeginning g flags entry mem) 0 2)
+unfolding cycle ownOf boundary lead
 started g flags entry mem =
     (record { off = refl; retired = refl; beyond = refl }, (record { off = refl; retired = refl; beyond = refl }, rw (turn44 entry)))
 

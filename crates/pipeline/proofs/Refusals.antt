@@ -1,4 +1,4 @@
--- What the functions of `numbers` join: a stop found, and a refusal; what an accepted run and start may rely on.
+-- What the functions of `numbers` join: a stop found; what an accepted run may rely on.
 -- Assumes nothing.
 use Prim.Native.Nat.{ℕ, _+_, _%_, _^_, _≤_}
 use mathlib.Core.Path.{_≡_, refl, sym, ap, _∙_}
@@ -6,7 +6,7 @@ use mathlib.Core.Bool.{Bool, true, false, not, _||_, false≢true}
 use mathlib.Core.List.{List}
 use native.Mathlib.Omega.{arith}
 use lib.Dec.{eqb, ltb}
-use borrow.Author.Tests.{eq-eqb, ne-eqb, ltb-false}
+use borrow.Author.Tests.{ltb-false}
 use Rattle.bits.specs.Choice.{pick}
 use Rattle.bits.specs.Bits.{field}
 use Rattle.word.specs.declared.Branch.{Branch}
@@ -17,7 +17,7 @@ use Rattle.memory.specs.declared.Fetched.{Fetched}
 use Rattle.memory.specs.declared.Fetched.the-variants.{Word, Blank}
 use Rattle.stops.specs.declared.Board.{Board}
 use Rattle.stops.specs.Stops.{stopOf, ruleBroken, movedStop, movedBy, storedBy, stopFor}
-use Rattle.plain.specs.Numbers.{badLength, badEntry, badFlags, badBudget, isCounter, isStop, startAnswer}
+use Rattle.plain.specs.Numbers.{badLength, badFlags, badBudget, isCounter, isStop}
 use Rattle.steps.specs.declared.Phase.{Phase}
 use Rattle.steps.specs.declared.Phase.the-variants.{Step1}
 use Rattle.pipeline.specs.declared.Control.{Control}
@@ -98,55 +98,26 @@ counted g c e =
       behind = ltb-false (c .cycles) (c .retired) (neither (ltb (c .cycles) (c .retired)) rest (e4 .1) .0);
     }
 
--- ---- a refusal
-
-module _ (lent budget : ℕ) (m : Machine) where
-  pub refused-length : (lent ≡ m .control .length → ⊥) → 12 ≡ refusal lent budget m
-  unfolding refusal
-  refused-length n = rw (ne-eqb lent (m .control .length) n)
-
-  module _ (s : lent ≡ m .control .length) {b : Bool} (e : b ≡ bad (m .registers) (m .control)) where
-    pub refused-record : b ≡ true → 11 ≡ refusal lent budget m
-    unfolding refusal
-    refused-record t = rw (eq-eqb lent (m .control .length) s, ← e, t)
-
-    module _ (good : b ≡ false) where
-      pub refused-budget : badBudget budget ≡ true → 3 ≡ refusal lent budget m
-      unfolding refusal
-      refused-budget t = rw (eq-eqb lent (m .control .length) s, ← e, good, t)
-
-      pub by-cycles : {t : Bool} → badBudget budget ≡ false → ltb mostCycles (m .control .cycles + budget) ≡ t
-          → pick t 13 0 ≡ refusal lent budget m
-      unfolding refusal
-      by-cycles n t = rw (eq-eqb lent (m .control .length) s, ← e, good, n, t)
+-- ---- an accepted run
 
 -- an accepted run has room to count its cycles
 pub record Granted (budget : ℕ) (c : Control) : Type 0 where
   pub room : c .cycles + budget ≤ 2 ^ 40
   pub behind : c .retired ≤ c .cycles
 
+-- a test with a number passed
+passed : (b : Bool) {q m : ℕ} → pick b q m ≡ 0 → (q ≡ 0 → ⊥) → (b ≡ false) × (m ≡ 0)
+passed true e n = absurd (n e)
+passed false e n = (refl, e)
+
 pub granted : (lent budget : ℕ) (m : Machine) → refusal lent budget m ≡ 0 → Granted budget (m .control)
 unfolding refusal
-granted lent budget m =
-    go (not (eqb lent (m .control .length))) (bad (m .registers) (m .control)) (badBudget budget) (ltb mostCycles (m .control .cycles + budget)) refl refl
-  where
-    go : (a b k d : Bool) → bad (m .registers) (m .control) ≡ b → ltb mostCycles (m .control .cycles + budget) ≡ d
-        → pick {A = ℕ} a 12 (pick b 11 (pick k 3 (pick d 13 0))) ≡ 0 → Granted budget (m .control)
-    go true b k d p q e = absurd (omega arith)
-    go false true k d p q e = absurd (omega arith)
-    go false false true d p q e = absurd (omega arith)
-    go false false false true p q e = absurd (omega arith)
-    go false false false false p q e =
-        record {
-          room = ltb-false mostCycles (m .control .cycles + budget) q;
-          behind = counted (m .registers) (m .control) p .behind;
-        }
-
--- an accepted start has a memory of at most 65,536 bytes
-pub short : (n entry flags : ℕ) → startAnswer n entry flags ≡ 0 → n ≤ 65536
-unfolding startAnswer
-short n entry flags = go (badLength n) (badEntry entry n) (badFlags flags) refl
-  where
-    go : (a b c : Bool) → badLength n ≡ a → pick {A = ℕ} a 1 (pick b 2 (pick c 4 0)) ≡ 0 → n ≤ 65536
-    go true b c p e = absurd (omega arith)
-    go false b c p e = ltb-false 65536 n (neither (not (eqb (n % 4) 0) || ltb n 16) (ltb 65536 n) p .1)
+granted lent budget m e =
+    let r = passed (not (eqb lent (m .control .length))) e (λ z. omega arith) in
+    let b = passed (bad (m .registers) (m .control)) (r .1) (λ z. omega arith) in
+    let c = passed (badBudget budget) (b .1) (λ z. omega arith) in
+    let t = passed (ltb mostCycles (m .control .cycles + budget)) (c .1) (λ z. omega arith) in
+    record {
+      room = ltb-false mostCycles (m .control .cycles + budget) (t .0);
+      behind = counted (m .registers) (m .control) (b .0) .behind;
+    }

@@ -1,35 +1,15 @@
--- A start, a run before its loop, and what is left to run after u cycles.
+-- A run before its loop, and what is left to run after u cycles.
 -- Assumes nothing.
 use Prim.Native.Nat.{ℕ, zero, suc, _+_, _^_, _≤_, _<_}
 use mathlib.Core.Path.{_≡_, refl, sym, ap, _∙_}
-use mathlib.Core.List.{List}
 use native.Mathlib.Nat.{zero-add, add-zero}
 use native.Mathlib.Omega.{arith}
-use lib.ListN.{length}
-use Rattle.bits.proofs.Tests.{zero-by, nonzero-by}
-use Rattle.plain.specs.Numbers.{startAnswer}
 use Rattle.steps.specs.declared.After.{After}
 use Rattle.steps.specs.declared.After.the-variants.{More, Done, Jump}
-use Rattle.pipeline.specs.declared.Core.{Core}
-use Rattle.pipeline.specs.declared.Control.{Control}
 use Rattle.pipeline.specs.Machine.{Machine, latchesOf}
 use Rattle.pipeline.specs.Cycle.{ownOf, retiredBy, cycle}
 use Rattle.pipeline.specs.Numbers.{stopFound, refusal}
-use Rattle.pipeline.specs.Run.{freshControl, core, zeroed, Begun, start, holding, Ran, ran, oneMore, runFrom, repeated, answered, run}
-
--- ---- a start
-
-abbrev begun : ℕ → Core → Begun
-begun answer k = record { answer = answer; core = k }
-
-module _ (g : List ℕ) (flags entry : ℕ) (mem : List ℕ) {q : ℕ} (e : q ≡ startAnswer (length mem) entry flags) where
-  pub start-refused : {k : Core} → (q ≡ 0 → ⊥) → k ≡ zeroed → begun q k ≡ start g flags entry mem
-  unfolding start
-  start-refused n z = rw (nonzero-by e n, z, e)
-
-  pub start-accepted : {c : Control} → q ≡ 0 → c ≡ freshControl flags entry (length mem) → begun 0 (core g c) ≡ start g flags entry mem
-  unfolding start
-  start-accepted z f = rw (zero-by e z, f, ← e, z)
+use Rattle.pipeline.specs.Run.{holding, Ran, ran, oneMore, runFrom, repeated, answered, run}
 
 -- ---- a run before its loop: refused, a stop held, or free to run
 

@@ -1,17 +1,18 @@
--- Whole instructions: a run from a boundary goes on from the next one.
+-- Whole instructions: a run from a boundary goes on from the next one, and what the loop over them keeps.
 -- Assumes nothing.
 use Prim.Native.Nat.{ℕ, zero, suc, _+_, _-_, _^_, _≤_, _<_}
 use mathlib.Core.List.{List}
-use mathlib.Core.Bool.{false}
-use lib.Dec.{eqb}
+use mathlib.Core.Bool.{false, _&&_, and-false}
+use lib.Dec.{leb, eqb}
+use borrow.Author.Tests.{le-leb, lt-leb, eq-eqb}
 use Rattle.bits.proofs.Tests.{nonzero-by}
 use Rattle.memory.specs.Memory.{wordAt}
 use Rattle.semantics.specs.declared.Performed.{Performed}
 use Rattle.semantics.specs.Perform.{Result, resultOf, performs}
 use Rattle.stops.specs.Stops.{stopFor}
-use mathlib.Core.Path.{_≡_, sym, ap, _∙_}
+use mathlib.Core.Path.{_≡_, refl, sym, ap, _∙_}
 use native.Mathlib.Omega.{arith}
-use native.Mathlib.Nat.{zero-add}
+use native.Mathlib.Nat.{zero-add, add-zero}
 use Rattle.plain.specs.Machine as plain
 use Rattle.plain.specs.Trace.{stopMet, duration}
 use Rattle.pipeline.specs.Machine.{Machine}
@@ -19,10 +20,10 @@ use Rattle.pipeline.specs.Cycle.{cycle}
 use Rattle.pipeline.specs.Numbers.{stopFound}
 use Rattle.pipeline.specs.Run.{ran, oneMore, runFrom}
 use Rattle.pipeline.specs.Term3.{boundary}
-use Rattle.pipeline.specs.Whole.{between, later, GoesOn, Kept, movedOn}
+use Rattle.pipeline.specs.Whole.{Stretch, stretch, longer, plainly, between, movedOn, longest, wholes, later}
 use Rattle.pipeline.specs.declared.Between.{Between}
-use Rattle.pipeline.proofs.Flight.{away, Flight, climb}
-use Rattle.pipeline.proofs.PlainSteps.{stop-is, flight, duration-flight, flight-short, instruction, step-range}
+use Rattle.pipeline.proofs.Flight.{Flight, climb}
+use Rattle.pipeline.proofs.PlainSteps.{stop-is, flight, duration-flight, flight-short, instruction}
 use Rattle.pipeline.proofs.Position.{away-quiet, boundary-stop, climb-add}
 
 pub run-on : (b : ℕ) (m : Machine) → stopFound m ≡ 0 → runFrom (suc b) m ≡ oneMore (runFrom b (cycle m))
@@ -50,74 +51,121 @@ whole p k t b r l e =
     let z : suc (flight p + after .used) ≡ duration p + after .used = omega arith in
     rw (s, n) (run-on (flight p + b) (boundary p k t) q ∙ ap oneMore f ∙ ap (λ x. ran (after .answer) x (after .machine)) z)
 
--- ---- what performing the word where the core stands tells
+-- ---- the durations of instructions that meet no stop
 
-module _ (g : List ℕ) (b : Between) (n : ℕ) (mem : List ℕ) {r : Performed} {h new : List ℕ}
-    (e : resultOf r h new ≡ performs (wordAt mem (b .a)) g (b .flags) (b .a) mem (record { length = n })) where
-  here : plain.Machine
-  here = plain.machine (plain.plain g (b .a) (b .flags) 0 n) mem
+pub duration-short : (p : plain.Machine) → stopMet p ≡ 0 → duration p ≤ 20
+duration-short p e = omega (arith, duration-flight p e, flight-short p)
 
-  told : resultOf r h new ≡ plain.performedAt here
-  unfolding here plain.performedAt
-  told = e
+pub duration-positive : (p : plain.Machine) → stopMet p ≡ 0 → 0 < duration p
+duration-positive p e = omega (arith, duration-flight p e)
 
-  stop-told : r .stop ≡ stopMet here
-  unfolding stopMet
-  stop-told = ap (λ (x : Result). x .performed .stop) told
+-- ---- whole instructions, one by one
 
-  cycles-told : r .cycles ≡ duration here
-  unfolding duration
-  cycles-told = ap (λ (x : Result). x .performed .cycles) told
+module _ (b : ℕ) (p : plain.Machine) (k t : ℕ) where
+  ends-by : (most : ℕ) → (leb longest b && eqb (stopMet p) 0) ≡ false → wholes most b p k t ≡ stretch 0 (boundary p k t)
+  unfolding wholes
+  ends-by zero e = refl
+  ends-by (suc most) e = rw e
 
-  -- a stop changes nothing
-  pub same-told : (r .stop ≡ 0 → ⊥) → (g ≡ h) × (mem ≡ new)
-  unfolding performs here
-  same-told z =
-      let s = stopFor (wordAt mem (b .a)) g (b .flags) (b .a) (record { length = n }) in
-      let q : eqb s 0 ≡ false = nonzero-by (stop-told ∙ stop-is here) z in
-      let k = rw q at e in
-      (sym (ap (λ (x : Result). x .registers) k), sym (ap (λ (x : Result). x .memory) k))
+  ends-short : (most : ℕ) → b < longest → wholes most b p k t ≡ stretch 0 (boundary p k t)
+  ends-short most h = ends-by most (rw (lt-leb longest b h))
 
-  pub short-told : r .stop ≡ 0 → r .cycles ≤ 20
-  short-told z = omega (arith, cycles-told, duration-flight here (sym stop-told ∙ z), flight-short here)
+  ends-stop : (most : ℕ) {s : ℕ} → s ≡ stopMet p → (s ≡ 0 → ⊥) → wholes most b p k t ≡ stretch 0 (boundary p k t)
+  ends-stop most e n = ends-by most (rw (nonzero-by e n) (and-false (leb longest b)))
 
-  pub positive-told : r .stop ≡ 0 → 0 < r .cycles
-  positive-told z = omega (arith, cycles-told, duration-flight here (sym stop-told ∙ z))
+  pub goes-by : (most : ℕ) → longest ≤ b → stopMet p ≡ 0
+      → wholes (suc most) b p k t ≡ longer (duration p) (wholes most (b - duration p) (plain.step p) (suc k) (t + duration p))
+  unfolding wholes
+  goes-by most h e = rw (le-leb longest b h, eq-eqb _ _ e)
 
-  step-told : r .stop ≡ 0 → plain.step here ≡ plain.machine (plain.plain h (r .next) (r .flags) 0 n) new
-  unfolding plain.step here
-  step-told z = ap (λ (x : Result). plain.after x n) (sym told) ∙ ap (λ s. plain.machine (plain.plain h (r .next) (r .flags) s n) new) z
+-- ---- the loop over them
 
-  next-told : r .stop ≡ 0 → b .a < 2 ^ 26 → r .next < 2 ^ 26
-  unfolding here
-  next-told z range = rw (step-told z) at (step-range here range)
+-- u cycles on from b₀ it stands at b: what is left of the stretch s, and the counts
+pub record Going (budget : ℕ) (s : Stretch) (b₀ : Between) (n : ℕ) (g : List ℕ) (b : Between) (mem : List ℕ) (u : ℕ) : Type 0 where
+  pub most : ℕ
+  pub enough : budget - u ≤ most
+  pub same : s ≡ longer u (wholes most (budget - u) (plainly g b n mem) (b .retired) (b .cycles))
+  pub near : u ≤ budget + 20
+  pub cycles : b .cycles ≡ b₀ .cycles + u
+  pub retired : b .retired ≤ b .cycles
 
-  pub moves-on : (budget u : ℕ) (m₀ : Machine) → GoesOn budget m₀ u (between g b n mem) → r .stop ≡ 0 → 20 ≤ budget - u → b .a < 2 ^ 26 → n ≤ 65536
-      → GoesOn budget m₀ (u + r .cycles) (between h (movedOn b r) n new)
-  unfolding here
-  moves-on budget u m₀ on z room range short =
-      let d = cycles-told in
-      let k = short-told z in
-      let rest = budget - (u + r .cycles) in
-      let sum : budget - u ≡ duration here + rest = omega arith in
-      let w = whole here (b .retired) (b .cycles) rest range short (sym stop-told ∙ z) in
-      let one : suc (b .retired) ≡ b .retired + 1 = omega arith in
-      let next : boundary (plain.step here) (suc (b .retired)) (b .cycles + duration here) ≡ between h (movedOn b r) n new =
-      rw (step-told z, one, sym d) in
-      let after = runFrom rest (between h (movedOn b r) n new) in
-      let all : u + (duration here + after .used) ≡ (u + r .cycles) + after .used = omega arith in
-      on ∙ ap (λ x. later u (runFrom x (between g b n mem))) sum ∙ ap (later u) (w ∙ ap (λ x. later (duration here) (runFrom rest x)) next)
-      ∙ ap (λ x. ran (after .answer) x (after .machine)) all
-
-  pub kept-on : {at₀ : Between} {budget u : ℕ} → Kept at₀ b budget u → r .stop ≡ 0 → 20 ≤ budget - u → Kept at₀ (movedOn b r) budget (u + r .cycles)
-  kept-on k z room = record {
-    range = next-told z (k .range);
-    within = omega (arith, k .within, short-told z);
-    cycles = omega (arith, k .cycles);
-    retired = omega (arith, k .retired, positive-told z);
-  }
-
-pub goes-start : (budget : ℕ) (m : Machine) → GoesOn budget m 0 m
-goes-start budget m =
+pub going-start : (budget : ℕ) (g : List ℕ) (b : Between) (n : ℕ) (mem : List ℕ) → b .retired ≤ b .cycles
+    → Going budget (wholes budget budget (plainly g b n mem) (b .retired) (b .cycles)) b n g b mem 0
+going-start budget g b n mem h =
     let z : budget - 0 ≡ budget = omega arith in
-    rw z (ap (λ x. ran (runFrom budget m .answer) x (runFrom budget m .machine)) (sym (zero-add (runFrom budget m .used))))
+    let all = wholes budget budget (plainly g b n mem) (b .retired) (b .cycles) in
+    record {
+      most = budget;
+      enough = omega arith;
+      same = rw z (ap (λ x. stretch x (all .machine)) (sym (zero-add (all .used))));
+      near = omega arith;
+      cycles = omega arith;
+      retired = h;
+    }
+
+module _ {budget : ℕ} {s : Stretch} {b₀ : Between} {n : ℕ} {g : List ℕ} {b : Between} {mem : List ℕ} {u : ℕ} (l : Going budget s b₀ n g b mem u) where
+  ended : wholes (l .most) (budget - u) (plainly g b n mem) (b .retired) (b .cycles) ≡ stretch 0 (between g b n mem) → stretch u (between g b n mem) ≡ s
+  ended e = sym (l .same ∙ ap (longer u) e ∙ ap (λ x. stretch x (between g b n mem)) (add-zero u))
+
+  pub going-short : budget < u + longest → stretch u (between g b n mem) ≡ s
+  going-short h = ended (ends-short (budget - u) (plainly g b n mem) (b .retired) (b .cycles) (l .most) (omega arith))
+
+  -- what performing the word there tells
+  module _ {r : Performed} {h new : List ℕ} (e : resultOf r h new ≡ performs (wordAt mem (b .a)) g (b .flags) (b .a) mem (record { length = n })) where
+    told : resultOf r h new ≡ plain.performedAt (plainly g b n mem)
+    unfolding plain.performedAt
+    told = e
+
+    stop-told : r .stop ≡ stopMet (plainly g b n mem)
+    unfolding stopMet
+    stop-told = ap (λ (x : Result). x .performed .stop) told
+
+    cycles-told : r .cycles ≡ duration (plainly g b n mem)
+    unfolding duration
+    cycles-told = ap (λ (x : Result). x .performed .cycles) told
+
+    step-told : r .stop ≡ 0 → plain.step (plainly g b n mem) ≡ plainly h (movedOn b r) n new
+    unfolding plain.step
+    step-told z = ap (λ (x : Result). plain.after x n) (sym told) ∙ ap (λ q. plain.machine (plain.plain h (r .next) (r .flags) q n) new) z
+
+    pub short-told : r .stop ≡ 0 → r .cycles ≤ 20
+    short-told z = omega (arith, cycles-told, duration-short (plainly g b n mem) (sym stop-told ∙ z))
+
+    pub positive-told : r .stop ≡ 0 → 0 < r .cycles
+    positive-told z = omega (arith, cycles-told, duration-positive (plainly g b n mem) (sym stop-told ∙ z))
+
+    -- a stop changes nothing
+    same-told : (r .stop ≡ 0 → ⊥) → (g ≡ h) × (mem ≡ new)
+    unfolding performs
+    same-told z =
+        let q : eqb (stopFor (wordAt mem (b .a)) g (b .flags) (b .a) (record { length = n })) 0 ≡ false = nonzero-by (stop-told ∙ stop-is (plainly g b n mem)) z in
+        let k = rw q at e in
+        (sym (ap (λ (x : Result). x .registers) k), sym (ap (λ (x : Result). x .memory) k))
+
+    pub going-stop : (r .stop ≡ 0 → ⊥) → stretch u (between h b n new) ≡ s
+    going-stop z =
+        let k = same-told z in
+        rw (sym (k .0), sym (k .1)) (ended (ends-stop (budget - u) (plainly g b n mem) (b .retired) (b .cycles) (l .most) stop-told z))
+
+    pub going-step : u + longest ≤ budget → r .stop ≡ 0 → Going budget s b₀ n h (movedOn b r) new (u + r .cycles)
+    going-step room z = go (l .most) (l .enough) (l .same)
+      where
+        go : (most : ℕ) → budget - u ≤ most → s ≡ longer u (wholes most (budget - u) (plainly g b n mem) (b .retired) (b .cycles))
+            → Going budget s b₀ n h (movedOn b r) new (u + r .cycles)
+        go zero i j = absurd (omega arith)
+        go (suc most) i j =
+            let d = cycles-told in
+            let rest : (budget - u) - duration (plainly g b n mem) ≡ budget - (u + r .cycles) = omega arith in
+            let one : suc (b .retired) ≡ b .retired + 1 = omega arith in
+            let after = wholes most (budget - (u + r .cycles)) (plainly h (movedOn b r) n new) (b .retired + 1) (b .cycles + r .cycles) in
+            let sum : u + (r .cycles + after .used) ≡ (u + r .cycles) + after .used = omega arith in
+            let w : wholes (suc most) (budget - u) (plainly g b n mem) (b .retired) (b .cycles) ≡ longer (r .cycles) after =
+            goes-by (budget - u) (plainly g b n mem) (b .retired) (b .cycles) most (omega arith) (sym stop-told ∙ z) ∙ rw (step-told z, rest, one, sym d) in
+            record {
+              most = most;
+              enough = omega (arith, positive-told z);
+              same = j ∙ ap (longer u) w ∙ ap (λ x. stretch x (after .machine)) sum;
+              near = omega (arith, short-told z);
+              cycles = omega (arith, l .cycles);
+              retired = omega (arith, l .retired, positive-told z);
+            }

@@ -22,12 +22,16 @@ abbrev pub retires : Fetched → ℕ
 retires Blank = 0
 retires (Word w) = 1
 
--- what the cycle of this phase does besides the fetch; a failed condition has one step, which does nothing
+-- how a failed condition ends, at A+8 in PC: its one step is done, and the counter goes on
+abbrev pub skips : ℕ → After
+skips pc = Done 1
+
+-- what the cycle of this phase does besides the fetch; the one step of a failed condition does nothing
 unfoldable pub ownOf : Phase → Fetched → List ℕ → ℕ → ℕ → Latches → List ℕ → Own
 ownOf Refill1 ix g f pc l mem = still g f mem (More Refill2)
 ownOf Refill2 ix g f pc l mem = still g f mem (Done (retires ix))
 ownOf Step1 Blank g f pc l mem = still g f mem (Done 0)
-ownOf Step1 (Word w) g f pc l mem = pick (passes (field w 28 4) f) (first (readOf w) g f pc mem) (still g f mem (Done 1))
+ownOf Step1 (Word w) g f pc l mem = pick (passes (field w 28 4) f) (first (readOf w) g f pc mem) (still g f mem (skips pc))
 ownOf (Later k) Blank g f pc l mem = still g f mem (Done 0)
 ownOf (Later k) (Word w) g f pc l mem = later (readOf w) k g f pc l mem
 

@@ -1,5 +1,5 @@
--- Term 3: what every list of run calls from a fresh core answers and leaves, in terms of the plain machine.
-use Prim.Native.Nat.{ℕ, zero, suc, _+_, _-_, _≤_, _<_}
+-- Term 3: what every list of run calls from an accepted start answers and leaves, in terms of the plain machine.
+use Prim.Native.Nat.{ℕ, zero, suc, _+_, _-_, _^_, _≤_, _<_}
 use mathlib.Core.Path.{_≡_}
 use mathlib.Core.Bool.{false}
 use mathlib.Core.List.{List, [], _∷_}
@@ -13,34 +13,41 @@ use Rattle.memory.specs.declared.Fetched.the-variants.{Word, Blank}
 use Rattle.semantics.specs.Effect.{ownSteps}
 use Rattle.plain.specs.Machine as plain
 use Rattle.plain.specs.Run as plain-calls
-use Rattle.plain.specs.Trace.{trace, stopMet, durations}
+use Rattle.plain.specs.Starts.{Answered}
+use Rattle.plain.specs.Trace.{trace, stopMet, durations, Does}
 use Rattle.steps.specs.declared.Phase.{Phase}
 use Rattle.steps.specs.declared.Phase.the-variants.{Step1, Refill1, Refill2, Later}
 use Rattle.pipeline.specs.Machine.{Machine, machine, pipe, control}
 use Rattle.steps.specs.Steps.{idle}
-use Rattle.pipeline.specs.Numbers.{mostCycles, bad}
+use Rattle.pipeline.specs.Numbers.{bad}
 use Rattle.pipeline.specs.Cycle.{cycle}
-use Rattle.pipeline.specs.Run.{start, holding, Ran, run}
+use Rattle.pipeline.specs.Run.{zeroed, start, holding, Ran, run}
 
 -- ---- the two machines from one start
 
--- the core that a start hands back, with the memory that the start was lent
+-- what each machine's start hands back, with the memory that the start was lent
 unfoldable pub fresh : List ℕ → ℕ → ℕ → List ℕ → Machine
 fresh g flags entry mem = let k = start g flags entry mem .core in machine (k .registers) (k .control) mem
 
--- the plain machine with the same registers, flags, entry and memory
 unfoldable pub plainFresh : List ℕ → ℕ → ℕ → List ℕ → plain.Machine
-plainFresh g flags entry mem = plain.machine (plain.plain g entry flags 0 (length mem)) mem
+plainFresh g flags entry mem = plain.machine (plain-calls.start g flags entry mem .plain) mem
+
+-- a start of both machines
+pub record Begins (g : List ℕ) (flags entry : ℕ) (mem : List ℕ) : Type 0 where
+  -- both answer 1, 2, 4 or 0, exactly as the paper's conditions say
+  pub answer : Answered (length mem) entry flags (start g flags entry mem .answer)
+  pub alike : plain-calls.start g flags entry mem .answer ≡ start g flags entry mem .answer
+  -- an accepted plain machine has the registers, flags, entry and memory that it is given
+  pub given : start g flags entry mem .answer ≡ 0 → plainFresh g flags entry mem ≡ plain.machine (plain.plain g entry flags 0 (length mem)) mem
+  -- a refused start hands back a zeroed record
+  pub refused : start g flags entry mem .answer ≢ 0
+      → (start g flags entry mem .core ≡ zeroed) × (plain-calls.start g flags entry mem .plain ≡ plain-calls.zeroed)
 
 -- 2 plus the durations of the plain machine's first k instructions
 unfoldable pub sums : plain.Machine → ℕ → ℕ
 sums p k = 2 + durations p k
 
--- the plain machine does k instructions before its stop
-abbrev pub Does : plain.Machine → ℕ → Type 0
-Does p k = (j : ℕ) → j < k → stopMet (trace p j) ≡ 0
-
--- it stops with q, and its stop total is t
+-- the plain machine stops with q, and its stop total is t
 pub record Stops (p : plain.Machine) (t q : ℕ) : Type 0 where
   pub k : ℕ
   pub does : Does p k
@@ -77,7 +84,7 @@ replyOf r = reply (r .answer) (r .used)
 pub record Accepted (n t : ℕ) (c : Call) : Type 0 where
   pub lent : length (c .memory) ≡ n
   pub small : c .budget ≤ 1000000
-  pub near : t + c .budget ≤ mostCycles
+  pub near : t + c .budget ≤ 2 ^ 40
 
 abbrev pub Refused : ℕ → ℕ → Call → Type 0
 Refused n t c = Accepted n t c → ⊥
@@ -102,11 +109,11 @@ pub data Answers (p : plain.Machine) (n t q : ℕ) (c : Call) : Reply → ℕ �
   -- else the budget is above 1,000,000
   too-many : length (c .memory) ≡ n → 1000000 < c .budget → Answers p n t q c (reply 3 0) t q
   -- else total plus budget is above 2^40
-  too-far : length (c .memory) ≡ n → c .budget ≤ 1000000 → mostCycles < t + c .budget → Answers p n t q c (reply 13 0) t q
+  too-far : length (c .memory) ≡ n → c .budget ≤ 1000000 → 2 ^ 40 < t + c .budget → Answers p n t q c (reply 13 0) t q
   -- an accepted run repeats a stop answered earlier, with 0 cycles
   repeats : Accepted n t c → q ≢ 0 → Answers p n t q c (reply q 0) t q
   -- else, if the stop total is below total plus budget, it answers the plain machine's stop and uses the difference
-  stops : Accepted n t c → q ≡ 0 → {t′ q′ : ℕ} → Stops p t′ q′ → t′ < t + c .budget → Answers p n t q c (reply q′ (t′ - t)) t′ q′
+  stops : Accepted n t c → q ≡ 0 → {t′ q′ : ℕ} → Stops p t′ q′ → t ≤ t′ → t′ < t + c .budget → Answers p n t q c (reply q′ (t′ - t)) t′ q′
   -- else it answers 0 and uses its budget
   spends : Accepted n t c → q ≡ 0 → {t′ : ℕ} → t′ ≡ t + c .budget → ((t″ q″ : ℕ) → Stops p t″ q″ → t′ ≤ t″)
       → Answers p n t q c (reply 0 (c .budget)) t′ 0
@@ -190,13 +197,18 @@ pub record Further (n t : ℕ) (m : Machine) (c : Call) : Type 0 where
   -- the core's cycles rise by those that it says it used
   pub rises : call c m .machine .control .cycles ≡ m .control .cycles + call c m .used
 
-abbrev pub Term3 : Type 0
-Term3 =
-    (g : List ℕ) (flags entry : ℕ) (mem : List ℕ) → start g flags entry mem .answer ≡ 0
-    → (cs : List Call) (rs : List Reply) (m : Machine) (t : ℕ) → Calls (length mem) (fresh g flags entry mem) 0 cs rs m t
-    → (plain-calls.start g flags entry mem ≡ record { answer = 0; plain = plainFresh g flags entry mem .plain })
-    × (q : ℕ)
-    × AllAnswer (plainFresh g flags entry mem) (length mem) 0 0 cs rs t q
-    × Never 11 rs
-    × Leaves (plainFresh g flags entry mem) (fresh g flags entry mem) m t q
-    × ((c : Call) → Further (length mem) t m c)
+-- what a list of calls from a start with n bytes, of the plain machine p and the core m₀, comes to
+pub record Follows (p : plain.Machine) (m₀ : Machine) (n : ℕ) (cs : List Call) (rs : List Reply) (m : Machine) (t : ℕ) : Type 0 where
+  -- the stop answered, or 0
+  pub stop : ℕ
+  pub answers : AllAnswer p n 0 0 cs rs t stop
+  -- 11 doesn't come up
+  pub never : Never 11 rs
+  pub leaves : Leaves p m₀ m t stop
+  pub further : (c : Call) → Further n t m c
+
+pub record Term3 : Type 0 where
+  pub starts : (g : List ℕ) (flags entry : ℕ) (mem : List ℕ) → Begins g flags entry mem
+  pub lists : (g : List ℕ) (flags entry : ℕ) (mem : List ℕ) → start g flags entry mem .answer ≡ 0
+      → (cs : List Call) (rs : List Reply) (m : Machine) (t : ℕ) → Calls (length mem) (fresh g flags entry mem) 0 cs rs m t
+      → Follows (plainFresh g flags entry mem) (fresh g flags entry mem) (length mem) cs rs m t

@@ -7,11 +7,10 @@ ghost use Rattle.steps.specs.declared.Phase.the-variants.{Step1, Later};
 ghost use Rattle.steps.specs.declared.After.the-variants.{Done};
 ghost use Rattle.pipeline.specs.Machine.{machine, pipeOf, latchesOf};
 ghost use Rattle.steps.specs.Steps.{Latches, first, later};
-ghost use Rattle.pipeline.specs.Cycle.{retires, ownOf, fetches, retiredBy, close, cycle};
+ghost use Rattle.pipeline.specs.Cycle.{retires, skips, ownOf, fetches, retiredBy, close, cycle};
 ghost use Rattle.pipeline.specs.View.{piped};
 ghost use Rattle.steps.specs.View.{latched, stepped};
 use crate::Control;
-use crate::Core;
 use crate::Piped;
 use bits::field;
 use condition::passes;
@@ -68,7 +67,13 @@ fn later(
     }
 }
 
-// Step 1: a failed condition does nothing.
+// How a failed condition ends, at A+8 in pc: its one step is done, and the counter goes on.
+fn skips(pc: u32) -> After
+    ensures { λ r. ⌜ r ≡ skips pc ⌝ }
+{
+    After::Done(1)
+}
+
 fn step1(ix: Fetched, registers: &mut [u32; 15], flags: u32, pc: u32) -> Step
     ensures { λ r. ⌜ ((l : Latches) (mem : List ℕ) → stepped r (now (registers .exit)) mem ≡ ownOf Step1 ix (now (registers .entry)) flags pc l mem) ⌝ }
 {
@@ -77,7 +82,7 @@ fn step1(ix: Fetched, registers: &mut [u32; 15], flags: u32, pc: u32) -> Step
             if passes(field(word, 28, 4), flags) {
                 first(word, registers, flags, pc)
             } else {
-                still(flags, After::Done(1))
+                still(flags, skips(pc))
             }
         }
         Fetched::Blank => still(flags, After::Done(0)),
@@ -211,17 +216,4 @@ pub fn cycle(c: Control, registers: &mut [u32; 15], memory: &mut [u8]) -> Contro
     let p = fetches(c, memory);
     let s = own(c, registers, memory);
     close(s, p, c)
-}
-
-impl Core {
-    // One cycle: the old core taken, the new one handed back.
-    fn cycle(self, memory: &mut [u8]) -> Core
-        requires { ⌜ (self .control .cycles < 2 ^ 63) × (self .control .retired < 2 ^ 63) ⌝ }
-        ensures { λ r. ⌜ machine (r .registers) (r .control) (now (memory .exit)) ≡ cycle (machine (self .registers) (self .control) (now (memory .entry))) ⌝ }
-    {
-        let mut registers = self.registers;
-        let c = self.control;
-        let control = cycle(c, &mut registers, memory);
-        Core { registers, control }
-    }
 }

@@ -1,10 +1,9 @@
-// Whole instructions from a boundary on, while the longest fits into the budget: what the plain machine's step does, and the core after its duration.
+// The quick road of a run: cycles to step 1, and whole instructions by the plain machine's step while the longest fits into the budget.
 ghost use mathlib.Core.Path.{_≡_};
 ghost use Prim.Native.Nat.{ℕ, _+_, _≤_, _<_, _^_};
-ghost use mathlib.Core.Bool.{true};
 ghost use mathlib.Core.List.{List};
 ghost use Rattle.pipeline.specs.Machine.{machine};
-ghost use Rattle.pipeline.specs.Whole.{between, GoesOn, Kept, movedOn, isStep1, Onward, Stands};
+ghost use Rattle.pipeline.specs.Whole.{stretch, isStep1, settled, plainly, between, movedOn, wholes, same, stands, skipped};
 use crate::Between;
 use crate::Came;
 use crate::Control;
@@ -40,13 +39,12 @@ fn whole(
     length: u32,
     budget: u64,
 ) -> Came
-    requires { ⌜ (length ≤ 65536) × (at .cycles + budget ≤ 2 ^ 40) × Kept at at budget 0 ⌝ }
-    ensures goes { λ r. ⌜ GoesOn budget (between (now (registers .entry)) at length (now (memory .entry))) (r .used) (between (now (registers .exit)) (r .at) length (now (memory .exit))) ⌝ }
-    ensures kept { λ r. ⌜ Kept at (r .at) budget (r .used) ⌝ }
+    requires { ⌜ (at .cycles + budget ≤ 2 ^ 40) × (at .retired ≤ at .cycles) ⌝ }
+    ensures { λ r. ⌜ stretch (r .used) (between (now (registers .exit)) (r .at) length (now (memory .exit))) ≡ wholes budget budget (plainly (now (registers .entry)) at length (now (memory .entry))) (at .retired) (at .cycles) ⌝ }
 {
     let mut here = at;
     let mut used: u64 = 0;
-    while 20 <= budget - used {
+    while used + 20 <= budget {
         let r = perform_at(registers, memory, here.flags, here.a, Board { length });
         if r.stop != 0 {
             return Came { at: here, used };
@@ -73,7 +71,7 @@ fn is_step1(phase: Phase) -> bool
 // Cycles until step 1 or until the budget is spent: no stop is found before step 1.
 pub fn settle(c: Control, registers: &mut [u32; 15], memory: &mut [u8], budget: u64) -> Under
     requires { ⌜ (c .cycles + budget ≤ 2 ^ 40) × (c .retired ≤ c .cycles) ⌝ }
-    ensures { λ r. ⌜ Onward budget (machine (now (registers .entry)) c (now (memory .entry))) (r .used) (machine (now (registers .exit)) (r .control) (now (memory .exit))) ⌝ }
+    ensures { λ r. ⌜ stretch (r .used) (machine (now (registers .exit)) (r .control) (now (memory .exit))) ≡ settled budget (machine (now (registers .entry)) c (now (memory .entry))) ⌝ }
 {
     let mut at = c;
     let mut used: u64 = 0;
@@ -89,7 +87,7 @@ pub fn settle(c: Control, registers: &mut [u32; 15], memory: &mut [u8], budget: 
 }
 
 fn same(x: Fetched, y: Fetched) -> bool
-    ensures { λ r. ⌜ (r ≡ true → x ≡ y) ⌝ }
+    ensures { λ r. ⌜ r ≡ same x y ⌝ }
 {
     match x {
         Fetched::Word(v) => match y {
@@ -103,20 +101,21 @@ fn same(x: Fetched, y: Fetched) -> bool
     }
 }
 
-// The pipe holds what fetches would give now, and nothing is latched.
+// About to do step 1: no stop held, nothing latched, and the pipe holds what fetches would give now.
 fn stands(c: Control, memory: &[u8]) -> bool
-    ensures { λ r. ⌜ (r ≡ true → Stands c (now (memory .entry))) ⌝ }
+    ensures { λ r. ⌜ r ≡ stands c (now (memory .entry)) ⌝ }
 {
     let phase = c.phase;
     let ir1 = c.ir1;
     let ir2 = c.ir2;
     let ix = c.ix;
     let a = behind(c.pc);
-    let still = (c.stop == 0) & (c.address == 0) & (c.datum == 0) & (c.base == 0);
+    let clear = (c.stop == 0) & (c.address == 0) & (c.datum == 0) & (c.base == 0);
     let sized = (c.pc < 67108864) & (c.length <= 65536);
     let word = fetch(memory, a);
     let ahead1 = fetch(memory, ahead(a, 4));
-    is_step1(phase) & still & sized & same(ix, word) & same(ir2, word) & same(ir1, ahead1)
+    let filled = same(ix, word) & same(ir2, word) & same(ir1, ahead1);
+    is_step1(phase) & clear & sized & filled
 }
 
 // The boundary core.
@@ -145,7 +144,7 @@ fn control_at(at: Between, length: u32, memory: &[u8]) -> Control
 // Whole instructions where the core stands between two and the longest fits.
 pub fn skip(c: Control, registers: &mut [u32; 15], memory: &mut [u8], budget: u64) -> Under
     requires { ⌜ (c .cycles + budget ≤ 2 ^ 40) × (c .retired ≤ c .cycles) ⌝ }
-    ensures { λ r. ⌜ Onward budget (machine (now (registers .entry)) c (now (memory .entry))) (r .used) (machine (now (registers .exit)) (r .control) (now (memory .exit))) ⌝ }
+    ensures { λ r. ⌜ stretch (r .used) (machine (now (registers .exit)) (r .control) (now (memory .exit))) ≡ skipped budget (machine (now (registers .entry)) c (now (memory .entry))) ⌝ }
 {
     if stands(c, memory) {
         let at = Between {

@@ -1,9 +1,11 @@
 // Start and run of the core.
 ghost use mathlib.Core.Path.{_≡_};
-ghost use Prim.Native.Nat.{_+_, _^_, _≤_};
+ghost use mathlib.Core.List.{List};
+ghost use Prim.Native.Nat.{ℕ, _+_, _^_, _≤_};
 ghost use lib.ListN.{length};
 ghost use Rattle.pipeline.specs.Machine.{machine};
 ghost use Rattle.pipeline.specs.Run.{freshControl, zeroed, start, ran, runFrom, run};
+ghost use Rattle.pipeline.specs.AtOnce.{atOnce};
 use crate::Control;
 use crate::Core;
 use crate::CoreRan;
@@ -99,6 +101,14 @@ fn run_on(c: Control, registers: &mut [u32; 15], memory: &mut [u8], budget: u64)
     }
 }
 
+// The number with which a call ends before its first cycle, or 0: a refusal, else the stop held.
+fn at_once(lent: usize, budget: u64, c: Control, registers: &[u32; 15]) -> u32
+    ensures { λ r. ⌜ ((mem : List ℕ) → r ≡ atOnce lent budget (machine (now (registers .entry)) c mem)) ⌝ }
+{
+    let answer = refusal(lent, budget, c, registers);
+    if answer != 0 { answer } else { c.stop }
+}
+
 impl Core {
     pub fn start(registers: [u32; 15], flags: u32, entry: u32, memory: &[u8]) -> CoreStarted
         ensures { λ r. ⌜ record { answer = r .answer; core = r .core } ≡ start registers flags entry (now (memory .entry)) ⌝ }
@@ -115,11 +125,12 @@ impl Core {
         }
     }
 
-    pub fn run(mut self, memory: &mut [u8], budget: u64) -> CoreRan
-        ensures { λ r. ⌜ ran (r .answer) (r .used) (machine (r .core .registers) (r .core .control) (now (memory .exit))) ≡ run (length (now (memory .entry))) budget (machine (self .registers) (self .control) (now (memory .entry))) ⌝ }
+    // One cycle, or the stop found: a run with a budget of 1, by the plain loop.
+    pub fn cycle(mut self, memory: &mut [u8]) -> CoreRan
+        ensures { λ r. ⌜ ran (r .answer) (r .used) (machine (r .core .registers) (r .core .control) (now (memory .exit))) ≡ run (length (now (memory .entry))) 1 (machine (self .registers) (self .control) (now (memory .entry))) ⌝ }
     {
         let c = self.control;
-        let answer = refusal(memory.len(), budget, c, &self.registers);
+        let answer = at_once(memory.len(), 1, c, &self.registers);
         if answer != 0 {
             return CoreRan {
                 answer,
@@ -127,9 +138,28 @@ impl Core {
                 core: self,
             };
         }
-        if c.stop != 0 {
+        let went = run_from(c, &mut self.registers, memory, 1);
+        let next = went.control;
+        self.control = next;
+        CoreRan {
+            answer: went.answer,
+            used: went.used,
+            core: self,
+        }
+    }
+
+    // A single cycle has no use for the quick road.
+    pub fn run(mut self, memory: &mut [u8], budget: u64) -> CoreRan
+        ensures { λ r. ⌜ ran (r .answer) (r .used) (machine (r .core .registers) (r .core .control) (now (memory .exit))) ≡ run (length (now (memory .entry))) budget (machine (self .registers) (self .control) (now (memory .entry))) ⌝ }
+    {
+        if budget == 1 {
+            return self.cycle(memory);
+        }
+        let c = self.control;
+        let answer = at_once(memory.len(), budget, c, &self.registers);
+        if answer != 0 {
             return CoreRan {
-                answer: c.stop,
+                answer,
                 used: 0,
                 core: self,
             };

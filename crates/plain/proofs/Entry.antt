@@ -5,7 +5,7 @@ use mathlib.Core.Path.{_≡_, refl, sym, ap, _∙_}
 use lib.ListN.{length}
 use Rattle.plain.specs.Machine.{Machine}
 use Rattle.plain.specs.Numbers.{refusal}
-use Rattle.plain.specs.Run.{ran, runFrom, repeated, refused, run}
+use Rattle.plain.specs.Run.{Ran, ran, repeated, refused, run}
 
 module _ (n : ℕ) (m : Machine) {q : ℕ} (e : q ≡ refusal (m .plain) (length (m .memory)) n) where
   pub run-refused : (q ≡ 0 → ⊥) → ran q 0 m ≡ run n m
@@ -27,5 +27,5 @@ module _ (n : ℕ) (m : Machine) {q : ℕ} (e : q ≡ refusal (m .plain) (length
       go zero f = absurd (f refl)
       go (suc x) f = refl
 
-  pub run-free : q ≡ 0 → m .plain .stop ≡ 0 → runFrom n m ≡ run n m
-  run-free z f = ap (λ (x : ℕ). repeated x n m) (sym f) ∙ accepted-run z
+  pub run-free : q ≡ 0 → m .plain .stop ≡ 0 → {r : Ran} → r ≡ repeated 0 n m → r ≡ run n m
+  run-free z f w = w ∙ ap (λ (x : ℕ). repeated x n m) (sym f) ∙ accepted-run z

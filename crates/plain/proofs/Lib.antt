@@ -1,3 +1,4 @@
 pub mod Accepted
 pub mod Loop
 pub mod Entry
+pub mod Traces

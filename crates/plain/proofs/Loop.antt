@@ -16,7 +16,7 @@ pub record Left (budget : ℕ) (m₀ : Machine) (u : ℕ) (m : Machine) : Type 0
   same : runFrom budget m₀ ≡ later u (runFrom rest m)
 
 -- by the stop that the step left
-abbrev met : ℕ → ℕ → Machine → Ran
+abbrev pub met : ℕ → ℕ → Machine → Ran
 met s n k = elim s [ zero ↦ oneMore (runFrom n k) | suc q ↦ ran (suc q) 0 k ]
 
 run-by : (n : ℕ) (m : Machine) {k : Machine} → k ≡ step m → runFrom (suc n) m ≡ met (k .plain .stop) n k

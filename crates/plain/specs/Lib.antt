@@ -2,4 +2,5 @@ pub mod Machine
 pub mod Lent
 pub mod Numbers
 pub mod Run
+pub mod Starts
 pub mod Trace

@@ -73,26 +73,6 @@ impl Plain {
         }
     }
 
-    // One instruction, or its stop; a stop held is not looked at.
-    pub fn step(self, memory: &mut [u8]) -> Plain
-        ensures { λ r. ⌜ machine r (now (memory .exit)) ≡ step (machine self (now (memory .entry))) ⌝ }
-    {
-        let mut registers = self.registers;
-        let at = At {
-            a: self.a,
-            flags: self.flags,
-            stop: self.stop,
-        };
-        let next = advance(&mut registers, memory, at, self.length);
-        Plain {
-            registers,
-            a: next.a,
-            flags: next.flags,
-            stop: next.stop,
-            length: self.length,
-        }
-    }
-
     // Instructions until `count` are done or a stop is met. A refused call changes nothing.
     pub fn run(self, memory: &mut [u8], count: u64) -> PlainRan
         ensures { λ r. ⌜ ran (r .answer) (r .done) (machine (r .plain) (now (memory .exit))) ≡ run count (machine self (now (memory .entry))) ⌝ }

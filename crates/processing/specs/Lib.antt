@@ -1,1 +1,2 @@
 pub mod Processing
+pub mod ResultFlags

@@ -1,6 +1,5 @@
 // A line of the report: a name, a number, a line feed.
 ghost use mathlib.Core.Path.{_≡_};
-ghost use Prim.Native.Nat.{_≤_, _<_};
 ghost use Rattle.text.specs.Text.{hexDigits, decimal};
 ghost use Rattle.text.specs.Output.{output, put};
 ghost use Rattle.report.specs.Lines.{line, registerLine, registerLines};
@@ -14,7 +13,6 @@ pub fn decimal_line(out: &mut [u8; 512], at: usize, name: &[u8], n: u64) -> usiz
 }
 
 pub fn hex_line(out: &mut [u8; 512], at: usize, name: &[u8], n: u32, digits: usize) -> usize
-    requires { ⌜ digits ≤ 8 ⌝ }
     ensures { λ r. ⌜ output (now (out .exit)) r ≡ put (output (now (out .entry)) at) (line (now (name .entry)) (hexDigits digits n)) ⌝ }
 {
     let named = text::literal(out, at, name);

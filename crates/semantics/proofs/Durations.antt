@@ -39,4 +39,4 @@ steps-short (Instruction.Other w) g = omega arith
 pub steps-for-short : (x : Fetched) (g : List ℕ) (f : ℕ) → stepsFor x g f ≤ 18
 unfolding stepsFor
 steps-for-short Blank g f = omega arith
-steps-for-short (Word w) g f = either (passes (field w 28 4) f) (ownSteps (readOf w) g) 1 (steps-short (readOf w) g) (omega arith)
+steps-for-short (Word w) g f = either (passes (field w 28 4) f) (ownSteps (readOf w) g) _ (steps-short (readOf w) g) (omega arith)

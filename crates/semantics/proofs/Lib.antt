@@ -1,3 +1,5 @@
 pub mod Durations
 pub mod Results
 pub mod Marked
+pub mod BranchOffsets
+pub mod OwnBase

@@ -18,16 +18,17 @@ use Rattle.condition.specs.Condition.{passes}
 use Rattle.datapath.specs.Counter.{ahead, counter}
 use Rattle.memory.specs.declared.Fetched.{Fetched}
 use Rattle.memory.specs.declared.Fetched.the-variants.{Word, Blank}
+use Rattle.registers.specs.declared.Turn.{Turn}
 use Rattle.registers.specs.declared.Goes.{Goes}
 use Rattle.registers.specs.declared.Goes.the-variants.{Next, To}
-use Rattle.registers.specs.Registers.{Out, out, arrives}
+use Rattle.registers.specs.Registers.{Out, out}
 use Rattle.processing.specs.Processing.{processed, byRegister?, readsAt}
 use Rattle.transfer.specs.Single as single
 use Rattle.transfer.specs.Block as block
 use Rattle.stops.specs.declared.Board.{Board}
 use Rattle.semantics.specs.declared.Performed.{Performed}
 use Rattle.semantics.specs.Branch.{branched}
-use Rattle.semantics.specs.Effect.{effect, loadEffect, storeEffect, blockLoadEffect, blockStoreEffect, effectOf, ownSteps, refills, nextAddress}
+use Rattle.semantics.specs.Effect.{effect, Left, baseThenRegister, baseThenRegisters, loadEffect, storeEffect, blockLoadEffect, blockStoreEffect, effectOf, ownSteps, refills, nextAddress}
 use Rattle.stops.specs.Stops.{stopOf, ruleBroken, movedStop, movedBy, storedBy, stopFor}
 use Rattle.semantics.specs.Perform.{Result, resultOf, performed, done, effectFor, stepsFor, performs}
 use Rattle.semantics.specs.Executed.{executed}
@@ -46,40 +47,40 @@ pub went-to : {t : Goes} {f w next : ℕ} (a steps : ℕ) → t ≡ To w → nex
 went-to {f = f} a steps e q =
     ap (λ (n : ℕ). performed 0 f n (steps + 2)) q ∙ ap (λ (x : Goes). performed 0 f (nextAddress a x) (steps + refills x)) (sym e)
 
+-- what is left, put together again
+pub whole : {o : Out} {h : List ℕ} {t : Turn} → Left o h t → out h (t .flags) (t .goes) ≡ o
+whole {o} l = rw (l .registers, l .flags, l .goes)
+
 -- an instruction at a done, from what it left
 pub finished : (a steps : ℕ) (mem : List ℕ) {p : Performed} {h : List ℕ} {f : ℕ} {t : Goes} {o : Out}
     → p ≡ performed 0 f (nextAddress a t) (steps + refills t) → out h f t ≡ o → resultOf p h mem ≡ done a steps (effect o mem)
 finished a steps mem {p} {h} {f} {t} q e =
     ap (λ (x : Performed). resultOf x h mem) q ∙ ap (λ (x : Out). done a steps (effect x mem)) e
 
-module _ (i : Single) (g : List ℕ) (f : ℕ) (mem : List ℕ) {base address value : ℕ} {h : List ℕ} where
-  pub load-done : (a : ℕ) {p : Performed} {h₂ : List ℕ} {f₂ : ℕ} {t : Goes}
+module _ (i : Single) (g : List ℕ) (f : ℕ) (mem : List ℕ) {h : List ℕ} where
+  pub load-done : (a : ℕ) {base address value : ℕ} {p : Performed} {f₂ : ℕ} {t : Goes}
       → base ≡ single.changedBase i g f (ahead a 8) → address ≡ single.addressOf i g f (ahead a 8) → value ≡ single.loadedValue i mem address
-      → h ≡ single.withBase i g base → p ≡ performed 0 f₂ (nextAddress a t) (3 + refills t) → out h₂ f₂ t ≡ arrives h f (i .rd) value
-      → resultOf p h₂ mem ≡ done a 3 (loadEffect i g f a mem)
+      → p ≡ performed 0 f₂ (nextAddress a t) (3 + refills t) → out h f₂ t ≡ baseThenRegister i g f base value
+      → resultOf p h mem ≡ done a 3 (loadEffect i g f a mem)
   unfolding loadEffect
-  load-done a b d v w q e = finished a 3 mem {o = loadEffect i g f a mem .out} q (e ∙ rw (w, v, d, b))
+  load-done a b d v q e = finished a 3 mem {o = loadEffect i g f a mem .out} q (e ∙ rw (v, d, b))
 
-  pub store-done : (a : ℕ) {p : Performed} {new : List ℕ}
-      → base ≡ single.changedBase i g f (ahead a 8) → address ≡ single.addressOf i g f (ahead a 8)
-      → value ≡ single.storedValue g (i .rd) f (ahead a 12) → new ≡ single.storedTo i mem address value
-      → h ≡ single.withBase i g base → p ≡ performed 0 f (ahead a 4) 2 → resultOf p h new ≡ done a 2 (storeEffect i g f a mem)
+  pub store-done : (a : ℕ) {p : Performed} {new : List ℕ} → h ≡ storeEffect i g f a mem .out .registers → new ≡ storeEffect i g f a mem .memory
+      → p ≡ performed 0 f (ahead a 4) 2 → resultOf p h new ≡ done a 2 (storeEffect i g f a mem)
   unfolding storeEffect
-  store-done a b d v n w q = rw (q, w, n, v, d, b)
+  store-done a w n q = rw (q, w, n)
 
 module _ (i : Block) (g : List ℕ) (f a : ℕ) (mem : List ℕ) {p : Performed} {h : List ℕ} {n : ℕ} where
-  pub block-load-done : {base lowest : ℕ} {h₂ : List ℕ} {f₂ : ℕ} {t : Goes}
-      → n ≡ block.count i → lowest ≡ block.lowestAddress i g → base ≡ block.changedBase i g → h ≡ block.withBase i g base
-      → p ≡ performed 0 f₂ (nextAddress a t) (n + 2 + refills t) → out h₂ f₂ t ≡ block.loads (block.named (i .list)) h f lowest mem
-      → resultOf p h₂ mem ≡ done a (block.count i + 2) (blockLoadEffect i g f mem)
+  pub block-load-done : {base lowest : ℕ} {f₂ : ℕ} {t : Goes} → n ≡ block.count i → lowest ≡ block.lowestAddress i g → base ≡ block.changedBase i g
+      → p ≡ performed 0 f₂ (nextAddress a t) (n + 2 + refills t) → out h f₂ t ≡ baseThenRegisters i g f base lowest mem
+      → resultOf p h mem ≡ done a (block.count i + 2) (blockLoadEffect i g f mem)
   unfolding blockLoadEffect
-  block-load-done c l b w q e = finished a (block.count i + 2) mem {o = blockLoadEffect i g f mem .out} (rw c at q) (e ∙ rw (w, l, b))
+  block-load-done c l b q e = finished a (block.count i + 2) mem {o = blockLoadEffect i g f mem .out} (rw c at q) (e ∙ rw (l, b))
 
-  pub block-store-done : {a12 : ℕ} {new : List ℕ} → n ≡ block.count i → a12 ≡ ahead a 12 → h ≡ block.withBase i g (block.changedBase i g)
-      → new ≡ block.storesAll (block.named (i .list)) g (block.withBase i g (block.changedBase i g)) f a12 (block.lowestAddress i g) mem
+  pub block-store-done : {new : List ℕ} → n ≡ block.count i → h ≡ blockStoreEffect i g f a mem .out .registers → new ≡ blockStoreEffect i g f a mem .memory
       → p ≡ performed 0 f (ahead a 4) (n + 1) → resultOf p h new ≡ done a (block.count i + 1) (blockStoreEffect i g f a mem)
   unfolding blockStoreEffect
-  block-store-done c k w e q = rw (went-on {t = Next} a (n + 1) refl q, w, e, k, c)
+  block-store-done c w e q = rw (went-on {t = Next} a (n + 1) refl q, w, e, c)
 
 -- ---- a passing condition: stopped, or done
 
@@ -136,9 +137,10 @@ module _ (w : ℕ) (g : List ℕ) (f a : ℕ) (mem : List ℕ) (board : Board) w
   unfolding performs stopFor effectFor stepsFor executed
   passing p e = e ∙ rw p
 
-  pub failing : {p : Performed} → passes (field w 28 4) f ≡ false → p ≡ performed 0 f (ahead a 4) 1 → resultOf p g mem ≡ performs (Word w) g f a mem board
+  pub failing : {p : Performed} → passes (field w 28 4) f ≡ false → p ≡ performed 0 f (ahead a 4) (stepsFor (Word w) g f)
+      → resultOf p g mem ≡ performs (Word w) g f a mem board
   unfolding performs stopFor effectFor stepsFor
-  failing e q = rw (e, q)
+  failing e q = rw (q, e)
 
 -- an instruction that is read from a word
 pub read-as : {i j : Instruction} (g : List ℕ) (f a : ℕ) (mem : List ℕ) (board : Board) {r : Result}

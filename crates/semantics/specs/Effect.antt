@@ -1,11 +1,13 @@
 -- What a whole instruction at address a does, its own steps and its duration (paper 01, "Meaning" and the table of "Pipeline").
 use Prim.Native.Nat.{ℕ, _+_}
+use mathlib.Core.Path.{_≡_}
 use mathlib.Core.List.{List}
 use Rattle.bits.specs.Choice.{pick}
 use Rattle.word.specs.declared.Single.{Single}
 use Rattle.word.specs.declared.Block.{Block}
 use Rattle.word.specs.declared.Instruction.{Instruction}
 use Rattle.datapath.specs.Counter.{ahead, counter}
+use Rattle.registers.specs.declared.Turn.{Turn}
 use Rattle.registers.specs.declared.Goes.{Goes}
 use Rattle.registers.specs.declared.Goes.the-variants.{Next, To}
 use Rattle.registers.specs.Registers.{Out, out, arrives}
@@ -21,13 +23,20 @@ pub record Effect : Type 0 where
 abbrev pub effect : Out → List ℕ → Effect
 effect o mem = record { out = o; memory = mem }
 
--- read and base, then the register: a load into the base register wins
+-- what a call leaves in the registers h and says of the rest, each by itself
+pub record Left (o : Out) (h : List ℕ) (t : Turn) : Type 0 where
+  pub registers : h ≡ o .registers
+  pub flags : t .flags ≡ o .flags
+  pub goes : t .goes ≡ o .goes
+
+-- the base, then the register: a load into the base register wins
+abbrev pub baseThenRegister : Single → List ℕ → ℕ → ℕ → ℕ → Out
+baseThenRegister i g f base value = arrives (single.withBase i g base) f (i .rd) value
+
 unfoldable pub loadEffect : Single → List ℕ → ℕ → ℕ → List ℕ → Effect
 loadEffect i g f a mem =
     let pc = ahead a 8 in
-    effect
-    (arrives (single.withBase i g (single.changedBase i g f pc)) f (i .rd) (single.loadedValue i mem (single.addressOf i g f pc)))
-    mem
+    effect (baseThenRegister i g f (single.changedBase i g f pc) (single.loadedValue i mem (single.addressOf i g f pc))) mem
 
 -- a store of the base writes its old value
 unfoldable pub storeEffect : Single → List ℕ → ℕ → ℕ → List ℕ → Effect
@@ -37,9 +46,12 @@ storeEffect i g f a mem =
     (out (single.withBase i g (single.changedBase i g f pc)) f Next)
     (single.storedTo i mem (single.addressOf i g f pc) (single.storedValue g (i .rd) f (ahead a 12)))
 
+-- the base, then the registers: a loaded base wins
+abbrev pub baseThenRegisters : Block → List ℕ → ℕ → ℕ → ℕ → List ℕ → Out
+baseThenRegisters i g f base lowest mem = block.loads (block.named (i .list)) (block.withBase i g base) f lowest mem
+
 unfoldable pub blockLoadEffect : Block → List ℕ → ℕ → List ℕ → Effect
-blockLoadEffect i g f mem =
-    effect (block.loads (block.named (i .list)) (block.withBase i g (block.changedBase i g)) f (block.lowestAddress i g) mem) mem
+blockLoadEffect i g f mem = effect (baseThenRegisters i g f (block.changedBase i g) (block.lowestAddress i g) mem) mem
 
 unfoldable pub blockStoreEffect : Block → List ℕ → ℕ → ℕ → List ℕ → Effect
 blockStoreEffect i g f a mem =

@@ -3,3 +3,5 @@ pub mod Effect
 pub mod Perform
 pub mod Executed
 pub mod Marked
+pub mod BranchOffsets
+pub mod OwnBase

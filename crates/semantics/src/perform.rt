@@ -4,12 +4,13 @@ ghost use mathlib.Core.List.{List};
 ghost use Prim.Native.Nat.{ℕ, _+_, _≤_};
 ghost use Rattle.word.specs.declared.Instruction.{Instruction};
 ghost use Rattle.word.specs.Reader.{readOf};
-ghost use Rattle.transfer.specs.Block.{count};
+ghost use Rattle.transfer.specs.Block.{count, named, loads};
 ghost use Rattle.datapath.specs.Counter.{ahead};
 ghost use Rattle.stops.specs.declared.Board.{Board};
 ghost use Rattle.memory.specs.declared.Fetched.{Fetched};
 ghost use Rattle.memory.specs.Memory.{wordAt};
-ghost use Rattle.semantics.specs.Effect.{nextAddress, refills, loadEffect, storeEffect, blockLoadEffect, blockStoreEffect};
+ghost use Rattle.registers.specs.Registers.{arrives};
+ghost use Rattle.semantics.specs.Effect.{nextAddress, refills, Left, baseThenRegister, baseThenRegisters, loadEffect, storeEffect, blockLoadEffect, blockStoreEffect};
 ghost use Rattle.semantics.specs.Perform.{resultOf, performed, done, performs};
 ghost use Rattle.semantics.specs.Executed.{executed};
 use crate::Performed;
@@ -97,14 +98,34 @@ fn perform_processing(i: Processing, registers: &mut [u32; 15], flags: u32, a: u
     }
 }
 
+// `arrive`, with each part of what it leaves told by itself.
+fn arrived(registers: &mut [u32; 15], flags: u32, n: u32, value: u32) -> Turn
+    ensures { λ r. ⌜ Left (arrives (now (registers .entry)) flags n value) (now (registers .exit)) r ⌝ }
+{
+    arrive(registers, flags, n, value)
+}
+
+// The base, then the register: a load into the base register wins.
+fn base_then_register(
+    i: Single,
+    registers: &mut [u32; 15],
+    flags: u32,
+    changed: u32,
+    value: u32,
+) -> Turn
+    ensures { λ r. ⌜ Left (baseThenRegister i (now (registers .entry)) flags changed value) (now (registers .exit)) r ⌝ }
+{
+    single::write_base(i, registers, changed);
+    arrived(registers, flags, i.rd, value)
+}
+
 fn load(i: Single, registers: &mut [u32; 15], memory: &[u8], flags: u32, a: u32) -> Performed
     ensures { λ r. ⌜ resultOf r (now (registers .exit)) (now (memory .entry)) ≡ done a 3 (loadEffect i (now (registers .entry)) flags a (now (memory .entry))) ⌝ }
 {
     let pc = ahead(a, 8);
     let base = single::changed_base(i, registers, flags, pc);
     let value = single::loaded_value(i, memory, single::address(i, registers, flags, pc));
-    single::write_base(i, registers, base);
-    done(a, 3, arrive(registers, flags, i.rd, value))
+    done(a, 3, base_then_register(i, registers, flags, base, value))
 }
 
 fn store(i: Single, registers: &mut [u32; 15], memory: &mut [u8], flags: u32, a: u32) -> Performed
@@ -139,16 +160,38 @@ fn perform_single(
     }
 }
 
+// `block::load`, with each part of what it leaves told by itself.
+fn loaded(list: u32, registers: &mut [u32; 15], flags: u32, lowest: u32, memory: &[u8]) -> Turn
+    ensures { λ r. ⌜ Left (loads (named list) (now (registers .entry)) flags lowest (now (memory .entry))) (now (registers .exit)) r ⌝ }
+{
+    block::load(list, registers, flags, lowest, memory)
+}
+
+// The base, then the registers: a loaded base wins.
+fn base_then_registers(
+    i: Block,
+    registers: &mut [u32; 15],
+    memory: &[u8],
+    flags: u32,
+    changed: u32,
+    lowest: u32,
+) -> Turn
+    ensures { λ r. ⌜ Left (baseThenRegisters i (now (registers .entry)) flags changed lowest (now (memory .entry))) (now (registers .exit)) r ⌝ }
+{
+    block::write_base(i, registers, changed);
+    loaded(i.list, registers, flags, lowest, memory)
+}
+
 fn load_block(i: Block, registers: &mut [u32; 15], memory: &[u8], flags: u32, a: u32) -> Performed
     ensures { λ r. ⌜ resultOf r (now (registers .exit)) (now (memory .entry)) ≡ done a (count i + 2) (blockLoadEffect i (now (registers .entry)) flags (now (memory .entry))) ⌝ }
 {
     let lowest = block::lowest_address(i, registers);
-    block::write_base(i, registers, block::changed_base(i, registers));
+    let base = block::changed_base(i, registers);
     let n = count(i.list);
     done(
         a,
         n + 2,
-        block::load(i.list, registers, flags, lowest, memory),
+        base_then_registers(i, registers, memory, flags, base, lowest),
     )
 }
 

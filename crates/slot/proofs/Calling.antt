@@ -1,9 +1,10 @@
--- What a call leaves, from what the functions that it calls ensure; and a refused run keeps its array. Assumes nothing.
+-- What a call leaves, from what the functions that it calls ensure. Assumes nothing.
 use Prim.Native.Nat.{ℕ, suc, _<_, _^_}
 use mathlib.Core.Path.{_≡_, refl, sym, ap, _∙_}
 use mathlib.Core.Bool.{Bool, true, false}
 use mathlib.Core.List.{List}
 use lib.ListN.{length}
+use borrow.Author.Tests.{ne-eqb}
 use Rattle.word.specs.declared.Written.{Written}
 use Rattle.word.specs.Writer.{Answer, answerOf, writeOf}
 use Rattle.word.specs.declared.Instruction.{Instruction}
@@ -18,9 +19,8 @@ use Rattle.plain.specs.Run as plain
 use Rattle.slot.specs.CoreArray as coreArray
 use Rattle.slot.specs.PlainArray as plainArray
 use Rattle.slot.specs.RecordArray.{recordOf, standsForRecord}
-use Rattle.slot.specs.Calls.{started, called, coreBegun, coreStart, coreCalled, coreMachine, coreRun, plainBegun, plainStart, plainCalled, plainRun, answer, wordOf}
-use Rattle.slot.proofs.CoreLaws.{core-words-back}
-use Rattle.slot.proofs.PlainLaws.{plain-words-back}
+use Rattle.slot.specs.Calls.{Called, started, called, isRefusal, refused, unlessRefused, coreBegun, coreStart, coreCalled, coreMachine, otherLength, arrayRefusal, refusalOf, coreRun, plainBegun, plainStart, plainCalled, plainRun, answer, wordOf}
+use Rattle.slot.proofs.Refusing.{core-kept, plain-kept}
 
 pub core-started : (g : List ℕ) (f e : ℕ) (mem : List ℕ) {a : ℕ} {c : Core} {p : List ℕ}
     → _≡_ {A = pipeline.Begun} (record { answer = a; core = c }) (pipeline.start g f e mem) → p ≡ coreArray.packed c → started a p ≡ coreStart g f e mem
@@ -32,40 +32,70 @@ pub plain-started : (g : List ℕ) (f e : ℕ) (mem : List ℕ) {a : ℕ} {c : P
 unfolding plainStart
 plain-started g f e mem {a} q h = ap (λ (p : List ℕ). started a p) h ∙ ap plainBegun q
 
+-- where a run is refused, and where it is not
+module _ (words mem : List ℕ) (r : Called) where
+  pub handed-back : isRefusal (r .answer) ≡ true → refused (r .answer) words mem ≡ unlessRefused words mem r
+  handed-back h = rw h
+
+  pub left : isRefusal (r .answer) ≡ false → r ≡ unlessRefused words mem r
+  left h = rw h
+
 module _ (words mem : List ℕ) (n : ℕ) where
-  pub core-stands-not : coreArray.standsForCore words ≡ false → called 11 0 words mem ≡ coreRun words mem n
+  -- ---- the core's run
+
+  pub array-refused : {r : ℕ} → r ≡ refusalOf words mem → (r ≡ 0 → ⊥) → refused r words mem ≡ coreRun words mem n
   unfolding coreRun
-  core-stands-not h = rw h
+  array-refused {r} e h = rw (← e, ne-eqb r 0 h)
 
-  core-stands : coreArray.standsForCore words ≡ true → coreCalled (pipeline.run (length mem) n (coreMachine (coreArray.unpacked words) mem)) ≡ coreRun words mem n
+  pub array-accepted : refusalOf words mem ≡ 0
+      → unlessRefused words mem (coreCalled (pipeline.run (length mem) n (coreMachine (coreArray.unpacked words) mem))) ≡ coreRun words mem n
   unfolding coreRun
-  core-stands h = rw h
+  array-accepted e = rw e
 
-  pub core-ran : {c next : Core} {a u : ℕ} {p mem' : List ℕ} → coreArray.standsForCore words ≡ true → c ≡ coreArray.unpacked words
-      → pipeline.ran a u (pipelined.machine (next .registers) (next .control) mem') ≡ pipeline.run (length mem) n (pipelined.machine (c .registers) (c .control) mem)
-      → p ≡ coreArray.packed next → called a u p mem' ≡ coreRun words mem n
-  core-ran {a = a} {u = u} {mem' = mem'} s e q h =
-      ap (λ (p : List ℕ). called a u p mem') h
-      ∙ (ap coreCalled q ∙ (ap (λ (c : Core). coreCalled (pipeline.run (length mem) n (coreMachine c mem))) e ∙ core-stands s))
+  -- from what was tested of the array
+  module _ {d t : Bool} {r : ℕ} (h : d ≡ otherLength (length mem) (coreArray.at words 32)) (k : t ≡ coreArray.standsForCore words) (i : r ≡ arrayRefusal d t) where
+    refusal-is : r ≡ refusalOf words mem
+    refusal-is =
+        i ∙ (ap (λ (b : Bool). arrayRefusal b t) h ∙ ap (λ (b : Bool). arrayRefusal (otherLength (length mem) (coreArray.at words 32)) b) k)
 
-  -- a run that is refused with q + 1 hands back the array and the memory as they were
-  pub core-kept : (q : ℕ) → length words ≡ 33 → ((k : ℕ) → coreArray.at words k < 2 ^ 32) → coreArray.standsForCore words ≡ true
-      → numbers.refusal (length mem) n (coreMachine (coreArray.unpacked words) mem) ≡ suc q → coreRun words mem n ≡ called (suc q) 0 words mem
-  unfolding pipeline.run
-  core-kept q l b s r = sym (core-stands s) ∙ rw r (ap (λ (p : List ℕ). called (suc q) 0 p mem) (core-words-back words l b s))
+    pub core-not-run : (r ≡ 0 → ⊥) → refused r words mem ≡ coreRun words mem n
+    core-not-run = array-refused refusal-is
 
-  pub plain-ran : {c next : Plain} {a u : ℕ} {p mem' : List ℕ} → c ≡ plainArray.unpacked words
-      → plain.ran a u (unpiped.machine next mem') ≡ plain.run n (unpiped.machine c mem)
-      → p ≡ plainArray.packed next → called a u p mem' ≡ plainRun words mem n
-  unfolding plainRun
-  plain-ran {a = a} {u = u} {mem' = mem'} e q h =
-      ap (λ (p : List ℕ). called a u p mem') h
-      ∙ (ap plainCalled q ∙ ap (λ (c : Plain). plainCalled (plain.run n (unpiped.machine c mem))) e)
+    -- and from the core that was unpacked, and what its run left
+    module _ (z : r ≡ 0) {c next : Core} {a u : ℕ} {mem' : List ℕ} (e : c ≡ coreArray.unpacked words)
+        (q : pipeline.ran a u (pipelined.machine (next .registers) (next .control) mem') ≡ pipeline.run (length mem) n (coreMachine c mem)) where
+      core-joined : unlessRefused words mem (called a u (coreArray.packed next) mem') ≡ coreRun words mem n
+      core-joined =
+          ap (λ (r : pipeline.Ran). unlessRefused words mem (coreCalled r)) q
+          ∙ (ap (λ (k : Core). unlessRefused words mem (coreCalled (pipeline.run (length mem) n (coreMachine k mem)))) e ∙ array-accepted (sym refusal-is ∙ z))
 
-  pub plain-kept : (q : ℕ) → length words ≡ 19 → plainNumbers.refusal (plainArray.unpacked words) (length mem) n ≡ suc q
-      → plainRun words mem n ≡ called (suc q) 0 words mem
-  unfolding plainRun plain.run
-  plain-kept q l r = rw r (ap (λ (p : List ℕ). called (suc q) 0 p mem) (plain-words-back words l))
+      pub core-refused : isRefusal a ≡ true → called a 0 words mem' ≡ coreRun words mem n
+      core-refused r =
+          let kept = core-kept (length mem) n (coreMachine c mem) (ap (λ (z : pipeline.Ran). isRefusal (z .answer)) (sym q) ∙ r) in
+          ap (λ (k : List ℕ). called a 0 words k) (ap (λ (z : pipeline.Ran). z .machine .memory) (q ∙ kept))
+          ∙ (handed-back words mem (called a u (coreArray.packed next) mem') r ∙ core-joined)
+
+      pub core-ran : {p : List ℕ} → isRefusal a ≡ false → p ≡ coreArray.packed next → called a u p mem' ≡ coreRun words mem n
+      core-ran r h = ap (λ (p : List ℕ). called a u p mem') h ∙ (left words mem (called a u (coreArray.packed next) mem') r ∙ core-joined)
+
+  -- ---- the plain machine's run
+
+  module _ {c next : Plain} {a u : ℕ} {mem' : List ℕ} (e : c ≡ plainArray.unpacked words)
+      (q : plain.ran a u (unpiped.machine next mem') ≡ plain.run n (unpiped.machine c mem)) where
+    plain-joined : unlessRefused words mem (called a u (plainArray.packed next) mem') ≡ plainRun words mem n
+    unfolding plainRun
+    plain-joined =
+        ap (λ (r : plain.Ran). unlessRefused words mem (plainCalled r)) q
+        ∙ ap (λ (k : Plain). unlessRefused words mem (plainCalled (plain.run n (unpiped.machine k mem)))) e
+
+    pub plain-refused : isRefusal a ≡ true → called a 0 words mem' ≡ plainRun words mem n
+    plain-refused r =
+        let kept = plain-kept n (unpiped.machine c mem) (ap (λ (z : plain.Ran). isRefusal (z .answer)) (sym q) ∙ r) in
+        ap (λ (k : List ℕ). called a 0 words k) (ap (λ (z : plain.Ran). z .machine .memory) (q ∙ kept))
+        ∙ (handed-back words mem (called a u (plainArray.packed next) mem') r ∙ plain-joined)
+
+    pub plain-ran : {p : List ℕ} → isRefusal a ≡ false → p ≡ plainArray.packed next → called a u p mem' ≡ plainRun words mem n
+    plain-ran r h = ap (λ (p : List ℕ). called a u p mem') h ∙ (left words mem (called a u (plainArray.packed next) mem') r ∙ plain-joined)
 
 -- the writer's answer for an array
 pub no-word : (words : List ℕ) → standsForRecord words ≡ false → answer 5 0 ≡ wordOf words

@@ -8,6 +8,7 @@ use lib.ListN.{length}
 use Rattle.memory.specs.declared.Fetched.{Fetched}
 use Rattle.memory.specs.declared.Fetched.the-variants.{Word, Blank}
 use Rattle.steps.specs.declared.Phase.the-variants.{Later}
+use Rattle.plain.specs.Starts.{Answered}
 use Rattle.pipeline.specs.declared.Core.{Core}
 use Rattle.pipeline.specs.Machine.{Machine}
 use Rattle.pipeline.specs.Run.{Ran, core, start, run}
@@ -15,9 +16,10 @@ use Rattle.pipeline.specs.Term3.{fresh, Call, lend, call, Reply, replyOf, Accep
 use Rattle.pipeline.proofs.Phases.{early}
 use Rattle.pipeline.proofs.Lists.{term3}
 use Rattle.slot.specs.CoreArray.{wordIn, validity, standsForFetched, packed, unpacked, standsForCore}
-use Rattle.slot.specs.Calls.{Called, coreStart, coreCalled, coreMachine, coreRun}
-use Rattle.slot.specs.Lists.{coreCall, coreReply, CoreCalls, no-core-calls, core-accepted, core-refused, Packs, CoreLists}
+use Rattle.slot.specs.Calls.{Called, coreStart, coreCalled, coreMachine}
+use Rattle.slot.specs.Lists.{coreCall, coreReply, CoreCalls, no-core-calls, core-accepted, core-refused, CoreFollows, CoreLists}
 use Rattle.slot.proofs.CoreLaws.{core-back}
+use Rattle.slot.proofs.Refusals.{core-packed}
 
 stands-fetched : (f : Fetched) → standsForFetched (wordIn f) (validity f) ≡ true
 stands-fetched (Word w) = refl
@@ -32,9 +34,9 @@ coreOf m = core (m .registers) (m .control)
 
 -- a call on the array of a core that is read back
 packed-call : (c : Call) (m : Machine) → unpacked (packed (coreOf m)) ≡ coreOf m → coreCall c (packed (coreOf m)) ≡ coreCalled (call c m)
-unfolding coreRun
 packed-call c m e =
-    rw (stands-packed (coreOf m)) (ap (λ (k : Core). coreCalled (run (length (c .memory)) (c .budget) (coreMachine k (c .memory)))) e)
+    core-packed (packed (coreOf m)) (c .memory) (c .budget) (stands-packed (coreOf m)) (ap packed e)
+    ∙ ap (λ (k : Core). coreCalled (run (length (c .memory)) (c .budget) (coreMachine k (c .memory)))) e
 
 -- a list and then another
 joined : {n t t₁ t₂ : ℕ} {m m₁ m₂ : Machine} {cs ds : List Call} {rs ss : List Reply} → Calls n m t cs rs m₁ t₁ → Calls n m₁ t₁ ds ss m₂ t₂
@@ -53,9 +55,9 @@ module _ (g : List ℕ) (flags entry : ℕ) (mem : List ℕ) (l : length g ≡ 1
 
   read-back : (m : Machine) (t : ℕ) → Reached m t → unpacked (packed (coreOf m)) ≡ coreOf m
   read-back m t (cs, rs, k) =
-      let (plain, q, answers, never, leaves, further) = term3 g flags entry mem s cs rs m t k in
-      core-back (coreOf m) (leaves .lengths .0 ∙ fresh-registers)
-      (λ i e. let h : i < 17 = early (m .registers) (m .control) (leaves .good) i e in omega arith)
+      let left = term3 .lists g flags entry mem s cs rs m t k .leaves in
+      core-back (coreOf m) (left .lengths .0 ∙ fresh-registers)
+      (λ i e. let h : i < 17 = early (m .registers) (m .control) (left .good) i e in omega arith)
 
   one : (c : Call) (m : Machine) (t : ℕ) → Reached m t → {words : List ℕ} → words ≡ packed (coreOf m) → coreCall c words ≡ coreCalled (call c m)
   one c m t r e = ap (coreCall c) e ∙ packed-call c m (read-back m t r)
@@ -85,23 +87,33 @@ module _ (g : List ℕ) (flags entry : ℕ) (mem : List ℕ) (l : length g ≡ 1
       let (m′, k′, r′, e′, f′) = all k m₁ r₁ (ap (λ (z : Called). z .words) o) f in
       (m′, subst (λ z. Calls n m t (c ∷ cs) (z ∷ rs) m′ t′) (sym (ap coreReply o)) (refused x k′), r′, e′, f′)
 
-pub core-lists : CoreLists
+starts : (g : List ℕ) (flags entry : ℕ) (mem : List ℕ) → Answered (length mem) entry flags (coreStart g flags entry mem .answer)
+unfolding coreStart
+starts g flags entry mem = term3 .starts g flags entry mem .answer
+
+lists : (g : List ℕ) (flags entry : ℕ) (mem : List ℕ) → length g ≡ 15 → coreStart g flags entry mem .answer ≡ 0
+    → (cs : List Call) (rs : List Reply) (words mem′ : List ℕ) (t : ℕ)
+    → CoreCalls (length mem) (coreStart g flags entry mem .words) mem 0 cs rs words mem′ t
+    → CoreFollows g flags entry mem cs rs words mem′ t
 unfolding coreStart fresh
-core-lists g flags entry mem l e cs rs words mem′ t k =
+lists g flags entry mem l e cs rs words mem′ t k =
     let (m, k′, r, a, b) = all g flags entry mem l e k (fresh g flags entry mem) ([], [], no-calls) refl refl in
-    let (plain, q, answers, never, leaves, further) = term3 g flags entry mem e cs rs m t k′ in
-    let does : (c : Call) → coreCall c words ≡ coreCalled (call c m) = λ c. one g flags entry mem l e c m t r a in (
-      e,
-      never,
-      m,
-      k′,
-      record {
+    let follows = term3 .lists g flags entry mem e cs rs m t k′ in
+    let does : (c : Call) → coreCall c words ≡ coreCalled (call c m) = λ c. one g flags entry mem l e c m t r a in
+    record {
+      machine = m;
+      calls = k′;
+      follows = follows;
+      packs = record {
         array = a;
         memory = b;
         further = does;
         kept = λ c x. (
-          ap (λ (z : Called). z .words) (does c) ∙ (ap (λ (z : Machine). packed (coreOf z)) (further c .kept x) ∙ sym a),
-          ap (λ (z : Called). z .memory) (does c) ∙ ap (λ (z : Machine). z .memory) (further c .kept x),
+          ap (λ (z : Called). z .words) (does c) ∙ (ap (λ (z : Machine). packed (coreOf z)) (follows .further c .kept x) ∙ sym a),
+          ap (λ (z : Called). z .memory) (does c) ∙ ap (λ (z : Machine). z .memory) (follows .further c .kept x),
         );
-      },
-    )
+      };
+    }
+
+pub core-lists : CoreLists
+core-lists = record { starts = starts; lists = lists }

@@ -1,6 +1,8 @@
 -- What each call of the library answers and leaves: the calls of the crates below, on arrays.
 use Prim.Native.Nat.{ℕ}
+use mathlib.Core.Bool.{Bool, not, _&&_}
 use mathlib.Core.List.{List}
+use lib.Dec.{eqb, leb}
 use lib.ListN.{length}
 use Rattle.bits.specs.Choice.{pick}
 use Rattle.word.specs.Writer.{Answer, writeOf}
@@ -32,6 +34,18 @@ pub record Called : Type 0 where
 abbrev pub called : ℕ → ℕ → List ℕ → List ℕ → Called
 called answer used words mem = record { answer = answer; used = used; words = words; memory = mem }
 
+-- refusals are the numbers from 1 to 20; 0 is a budget spent, and stops are 21 to 25
+abbrev pub isRefusal : ℕ → Bool
+isRefusal answer = leb 1 answer && leb answer 20
+
+-- a refused run: the array and the memory that it was lent, with 0 counted
+abbrev pub refused : ℕ → List ℕ → List ℕ → Called
+refused answer words mem = called answer 0 words mem
+
+-- a run on this array and memory, which are handed back where it is refused
+abbrev pub unlessRefused : List ℕ → List ℕ → Called → Called
+unlessRefused words mem r = pick (isRefusal (r .answer)) (refused (r .answer) words mem) r
+
 abbrev pub coreBegun : pipeline.Begun → Started
 coreBegun b = started (b .answer) (coreArray.packed (b .core))
 
@@ -46,12 +60,22 @@ coreCalled r =
 abbrev pub coreMachine : Core → List ℕ → pipelined.Machine
 coreMachine c mem = pipelined.machine (c .registers) (c .control) mem
 
--- array, memory, budget; an array that stands for no core is a bad record
+abbrev pub otherLength : ℕ → ℕ → Bool
+otherLength lent length = not (eqb lent length)
+
+-- what a core's array refuses with before its core is run, or 0: 12 where the lent length differs, 11 where the array stands for no core
+abbrev pub arrayRefusal : Bool → Bool → ℕ
+arrayRefusal differs stands = pick differs 12 (pick (not stands) 11 0)
+
+abbrev pub refusalOf : List ℕ → List ℕ → ℕ
+refusalOf words mem = arrayRefusal (otherLength (length mem) (coreArray.at words 32)) (coreArray.standsForCore words)
+
+-- array, memory, budget; word 32 is the length of the memory that the core was started on
 unfoldable pub coreRun : List ℕ → List ℕ → ℕ → Called
 coreRun words mem budget =
-    pick (coreArray.standsForCore words)
-    (coreCalled (pipeline.run (length mem) budget (coreMachine (coreArray.unpacked words) mem)))
-    (called 11 0 words mem)
+    pick (eqb (refusalOf words mem) 0)
+    (unlessRefused words mem (coreCalled (pipeline.run (length mem) budget (coreMachine (coreArray.unpacked words) mem))))
+    (refused (refusalOf words mem) words mem)
 
 abbrev pub plainBegun : plain.Begun → Started
 plainBegun b = started (b .answer) (plainArray.packed (b .plain))
@@ -62,8 +86,9 @@ plainStart g flags entry mem = plainBegun (plain.start g flags entry mem)
 abbrev pub plainCalled : plain.Ran → Called
 plainCalled r = called (r .answer) (r .done) (plainArray.packed (r .machine .plain)) (r .machine .memory)
 
+-- array, memory, count; every array stands for a plain machine, whose run tests 12 and then 11 itself
 unfoldable pub plainRun : List ℕ → List ℕ → ℕ → Called
-plainRun words mem count = plainCalled (plain.run count (unpiped.machine (plainArray.unpacked words) mem))
+plainRun words mem count = unlessRefused words mem (plainCalled (plain.run count (unpiped.machine (plainArray.unpacked words) mem)))
 
 abbrev pub answer : ℕ → ℕ → Answer
 answer number word = record { number = number; word = word }

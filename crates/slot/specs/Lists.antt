@@ -3,9 +3,10 @@ use Prim.Native.Nat.{ℕ, _+_}
 use mathlib.Core.Path.{_≡_}
 use mathlib.Core.List.{List, [], _∷_}
 use lib.ListN.{length}
+use Rattle.plain.specs.Starts.{Answered}
 use Rattle.pipeline.specs.Machine.{Machine}
-use Rattle.pipeline.specs.Run.{core, start}
-use Rattle.pipeline.specs.Term3.{fresh, Call, call, Reply, reply, Accepted, Refused, Calls, Never}
+use Rattle.pipeline.specs.Run.{core}
+use Rattle.pipeline.specs.Term3.{fresh, plainFresh, Call, call, Reply, reply, Accepted, Refused, Calls, Follows}
 use Rattle.slot.specs.CoreArray.{packed}
 use Rattle.slot.specs.Calls.{Called, coreStart, coreCalled, coreRun}
 
@@ -34,14 +35,17 @@ pub record Packs (n t : ℕ) (m : Machine) (words mem : List ℕ) : Type 0 where
   pub further : (c : Call) → coreCall c words ≡ coreCalled (call c m)
   pub kept : (c : Call) → Refused n t c → (coreCall c words .words ≡ words) × (coreCall c words .memory ≡ c .memory)
 
--- from an accepted start the replies and the total are those of the same list of run calls, which Term3 is about, and 11 is none of them
-abbrev pub CoreLists : Type 0
-CoreLists =
-    (g : List ℕ) (flags entry : ℕ) (mem : List ℕ) → length g ≡ 15 → coreStart g flags entry mem .answer ≡ 0
-    → (cs : List Call) (rs : List Reply) (words mem′ : List ℕ) (t : ℕ)
-    → CoreCalls (length mem) (coreStart g flags entry mem .words) mem 0 cs rs words mem′ t
-    → (start g flags entry mem .answer ≡ 0)
-    × Never 11 rs
-    × (m : Machine)
-    × Calls (length mem) (fresh g flags entry mem) 0 cs rs m t
-    × Packs (length mem) t m words mem′
+-- what a list of C calls comes to: the same list of run calls with the same replies and total, to which term 3 applies, on the array of its core
+pub record CoreFollows (g : List ℕ) (flags entry : ℕ) (mem : List ℕ) (cs : List Call) (rs : List Reply) (words mem′ : List ℕ) (t : ℕ) : Type 0 where
+  pub machine : Machine
+  pub calls : Calls (length mem) (fresh g flags entry mem) 0 cs rs machine t
+  pub follows : Follows (plainFresh g flags entry mem) (fresh g flags entry mem) (length mem) cs rs machine t
+  pub packs : Packs (length mem) t machine words mem′
+
+pub record CoreLists : Type 0 where
+  -- a start answers 1, 2, 4 or 0, exactly as the paper's conditions say
+  pub starts : (g : List ℕ) (flags entry : ℕ) (mem : List ℕ) → Answered (length mem) entry flags (coreStart g flags entry mem .answer)
+  pub lists : (g : List ℕ) (flags entry : ℕ) (mem : List ℕ) → length g ≡ 15 → coreStart g flags entry mem .answer ≡ 0
+      → (cs : List Call) (rs : List Reply) (words mem′ : List ℕ) (t : ℕ)
+      → CoreCalls (length mem) (coreStart g flags entry mem .words) mem 0 cs rs words mem′ t
+      → CoreFollows g flags entry mem cs rs words mem′ t

@@ -1,9 +1,10 @@
 // The core's calls.
 ghost use mathlib.Core.Path.{_≡_};
-ghost use Rattle.slot.specs.Calls.{started, called, coreStart, coreRun};
+ghost use Rattle.slot.specs.Calls.{started, called, coreStart, otherLength, arrayRefusal, coreRun};
 use crate::core_array::packed;
 use crate::core_array::stands_for_core;
 use crate::core_array::unpacked;
+use crate::refusal::is_refusal;
 use pipeline::Core;
 
 // A refused start leaves the zeroed core.
@@ -23,7 +24,26 @@ pub extern "C" fn slot_core_start(
     begun.answer
 }
 
-// A refused run changes nothing.
+fn other_length(lent: usize, length: u32) -> bool
+    ensures { λ r. ⌜ r ≡ otherLength lent length ⌝ }
+{
+    lent != length as usize
+}
+
+// What the array refuses with before its core is run, or 0.
+fn array_refusal(differs: bool, stands: bool) -> u32
+    ensures { λ r. ⌜ r ≡ arrayRefusal differs stands ⌝ }
+{
+    if differs {
+        return 12;
+    }
+    if !stands {
+        return 11;
+    }
+    0
+}
+
+// A refused run writes neither the array nor the memory.
 #[no_mangle]
 pub extern "C" fn slot_core_run(
     core: &mut [u32; 33],
@@ -33,11 +53,15 @@ pub extern "C" fn slot_core_run(
 ) -> u32
     ensures { λ r. ⌜ called r (now (used .exit)) (now (core .exit)) (now (memory .exit)) ≡ coreRun (now (core .entry)) (now (memory .entry)) budget ⌝ }
 {
-    if !stands_for_core(core) {
-        *used = 0;
-        return 11;
+    *used = 0;
+    let refusal = array_refusal(other_length(memory.len(), core[32]), stands_for_core(core));
+    if refusal != 0 {
+        return refusal;
     }
     let ran = unpacked(core).run(memory, budget);
+    if is_refusal(ran.answer) {
+        return ran.answer;
+    }
     let next = ran.core;
     *core = packed(next);
     *used = ran.used;

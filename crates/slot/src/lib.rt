@@ -5,6 +5,7 @@ mod plain_array;
 mod plain_calls;
 mod record_array;
 mod record_calls;
+mod refusal;
 mod registers_array;
 
 // An operand's kind and fields as four words.

@@ -3,6 +3,7 @@ ghost use mathlib.Core.Path.{_≡_};
 ghost use Rattle.slot.specs.Calls.{started, called, plainStart, plainRun};
 use crate::plain_array::packed;
 use crate::plain_array::unpacked;
+use crate::refusal::is_refusal;
 use plain::Plain;
 
 #[no_mangle]
@@ -30,7 +31,11 @@ pub extern "C" fn slot_plain_run(
 ) -> u32
     ensures { λ r. ⌜ called r (now (used .exit)) (now (plain .exit)) (now (memory .exit)) ≡ plainRun (now (plain .entry)) (now (memory .entry)) count ⌝ }
 {
+    *used = 0;
     let ran = unpacked(plain).run(memory, count);
+    if is_refusal(ran.answer) {
+        return ran.answer;
+    }
     let next = ran.plain;
     *plain = packed(next);
     *used = ran.done;

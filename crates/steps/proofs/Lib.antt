@@ -1,1 +1,2 @@
 pub mod OwnSteps
+pub mod LatchTable

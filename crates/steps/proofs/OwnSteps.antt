@@ -13,7 +13,6 @@ use Rattle.word.specs.declared.Processing.{Processing}
 use Rattle.word.specs.declared.Single.{Single}
 use Rattle.word.specs.declared.Block.{Block}
 use Rattle.word.specs.declared.Instruction.{Instruction}
-use Rattle.datapath.specs.Counter.{ahead}
 use Rattle.memory.specs.Memory.{readWord, writeWord}
 use Rattle.registers.specs.Registers.{Out, put, arrives}
 use Rattle.processing.specs.Processing.{processed, byRegister?}
@@ -38,25 +37,23 @@ module _ (i : Processing) (g : List ℕ) (f pc : ℕ) (mem : List ℕ) where
   unfolding first
   processing-first e = rw e
 
-pub single-first : (i : Single) (g : List ℕ) (f pc : ℕ) (mem : List ℕ) {a d b : ℕ} → a ≡ single.addressOf i g f pc
-    → d ≡ pick (i .l) 0 (single.storedValue g (i .rd) f (ahead pc 4)) → b ≡ pick (single.writesBase i) (single.changedBase i g f pc) 0
-    → own g f (latches a d b) mem (More (Later 0)) ≡ first (Instruction.Single i) g f pc mem
+pub single-first : (i : Single) (g : List ℕ) (f pc : ℕ) (mem : List ℕ) {l : Latches} → l ≡ first (Instruction.Single i) g f pc mem .latches
+    → own g f l mem (More (Later 0)) ≡ first (Instruction.Single i) g f pc mem
 unfolding first
-single-first i g f pc mem a d b = rw (a, d, b)
+single-first i g f pc mem e = rw e
 
-pub block-first : (i : Block) (g : List ℕ) (f pc : ℕ) (mem : List ℕ) {n a d b : ℕ} → n ≡ getD (block.named (i .list)) 0 16
-    → a ≡ block.lowestAddress i g → d ≡ pick (i .l) 0 (single.storedValue g n f (ahead pc 4)) → b ≡ pick (i .w) (block.changedBase i g) 0
-    → own g f (latches a d b) mem (More (Later 0)) ≡ first (Instruction.Block i) g f pc mem
+pub block-first : (i : Block) (g : List ℕ) (f pc : ℕ) (mem : List ℕ) {l : Latches} → l ≡ first (Instruction.Block i) g f pc mem .latches
+    → own g f l mem (More (Later 0)) ≡ first (Instruction.Block i) g f pc mem
 unfolding first
-block-first i g f pc mem n a d b = rw (a, d, n, b)
+block-first i g f pc mem e = rw e
 
 -- ---- later steps of a single transfer
 
 module _ (i : Single) (k : ℕ) (g : List ℕ) (f : ℕ) (mem : List ℕ) (a d b : ℕ) where
-  pub load-read : {h : List ℕ} {v : ℕ} → k ≡ 0 → h ≡ single.withBase i g b → v ≡ single.loadedValue i mem a
-      → own h f (latches 0 v 0) mem (More (Later 1)) ≡ loadLater i k g f (latches a d b) mem
+  pub load-read : {h : List ℕ} {l : Latches} → k ≡ 0 → h ≡ loadLater i 0 g f (latches a d b) mem .registers
+      → l ≡ loadLater i 0 g f (latches a d b) mem .latches → own h f l mem (More (Later 1)) ≡ loadLater i k g f (latches a d b) mem
   unfolding loadLater
-  load-read z w v = rw (w, v, z)
+  load-read z w e = rw (w, e, z)
 
   pub load-arrives : (k ≡ 0 → ⊥) → last (arrives g f (i .rd) d) mem ≡ loadLater i k g f (latches a d b) mem
   unfolding loadLater
@@ -91,11 +88,11 @@ onward-some [] a h = absurd (h refl)
 onward-some (x ∷ xs) a h = refl
 
 -- the first read
-pub block-read : (i : Block) (g : List ℕ) (f : ℕ) (mem : List ℕ) (a d b : ℕ) {a₂ v : ℕ} {h : List ℕ} → h ≡ block.withBase i g b
-    → a₂ ≡ onward (tail (block.named (i .list))) a → v ≡ readWord mem a
-    → own h f (latches a₂ v 0) mem (More (Later 1)) ≡ blockLoadLater i 0 g f (latches a d b) mem
+pub block-read : (i : Block) (g : List ℕ) (f : ℕ) (mem : List ℕ) (a d b : ℕ) {h : List ℕ} {l : Latches}
+    → h ≡ blockLoadLater i 0 g f (latches a d b) mem .registers → l ≡ blockLoadLater i 0 g f (latches a d b) mem .latches
+    → own h f l mem (More (Later 1)) ≡ blockLoadLater i 0 g f (latches a d b) mem
 unfolding blockLoadLater
-block-read i g f mem a d b w n v = rw (w, n, v)
+block-read i g f mem a d b w e = rw (w, e)
 
 -- a load's step with none, one or several registers left
 module _ (k : ℕ) (g : List ℕ) (f : ℕ) (l : Latches) (mem : List ℕ) where

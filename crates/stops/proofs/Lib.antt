@@ -1,2 +1,4 @@
 pub mod Spans
 pub mod Marked
+pub mod BrokenRules
+pub mod StopOrder

@@ -2,23 +2,20 @@
 -- Assumes nothing.
 use mathlib.Core.Path.{_≡_, refl, sym, _∙_}
 use mathlib.Core.Bool.{Bool, true, false, not, _||_}
-use mathlib.Core.List.{List, [], _∷_}
 use mathlib.Core.Logic.{_≢_, _⊎_, inl, inr, ⊎-elim}
-use Prim.Native.Nat.{ℕ, zero, suc, _+_, _-_, _*_, _/_, _^_, _≤_, _<_}
-use native.Mathlib.Nat.{mod-eq-of-lt}
+use Prim.Native.Nat.{ℕ, zero, suc, _+_, _-_, _*_, _/_, _≤_, _<_}
 use native.Mathlib.Omega.{arith}
 use lib.Dec.{ltb, leb, eqb}
 use borrow.Author.Tests.{lt-ltb, le-ltb, lt-leb, le-leb, ne-eqb, ltb-true, ltb-false, eqb-false}
-use Rattle.transfer.specs.Block.{next}
 use Rattle.stops.specs.Stops.{span, outside, hits}
 
 -- all of n + 1 addresses are inside where the last is
-inside : (n a length : ℕ) → a + 4 * n < length → outside (span (suc n) a) length ≡ false
+pub inside : (n a length : ℕ) → a + 4 * n < length → outside (span (suc n) a) length ≡ false
 inside zero a length h = simp (lt-ltb a length (omega arith))
 inside (suc n) a length h = simp (lt-ltb a length (omega arith)) (inside n (a + 4) length (omega arith))
 
 -- and one is outside where the last is
-some-outside : (n a length : ℕ) → length ≤ a + 4 * n → outside (span (suc n) a) length ≡ true
+pub some-outside : (n a length : ℕ) → length ≤ a + 4 * n → outside (span (suc n) a) length ≡ true
 some-outside zero a length h = simp (le-ltb a length (omega arith))
 some-outside (suc n) a length h = go (ltb a length) (some-outside n (a + 4) length (omega arith))
   where
@@ -37,14 +34,14 @@ last-decides (suc n) a length z =
     go false e = let h : length ≤ a + 4 * n = ltb-false _ _ e in le-leb _ _ h ∙ sym (some-outside n a length h)
 
 -- a word that is none of these
-no-hit : (n a b : ℕ) → (b / 4 < a / 4) ⊎ (a / 4 + n ≤ b / 4) → hits (span n a) b ≡ false
+pub no-hit : (n a b : ℕ) → (b / 4 < a / 4) ⊎ (a / 4 + n ≤ b / 4) → hits (span n a) b ≡ false
 no-hit zero a b h = refl
 no-hit (suc n) a b h =
     simp (ne-eqb (a / 4) (b / 4) (⊎-elim (λ l e. omega arith) (λ l e. omega arith) h))
     (no-hit n (a + 4) b (⊎-elim (λ l. inl (omega arith)) (λ l. inr (omega arith)) h))
 
 -- a word from the first on, before the end
-hit : (n a b : ℕ) → a / 4 ≤ b / 4 → b / 4 < a / 4 + n → hits (span n a) b ≡ true
+pub hit : (n a b : ℕ) → a / 4 ≤ b / 4 → b / 4 < a / 4 + n → hits (span n a) b ≡ true
 hit zero a b h k = absurd (omega arith)
 hit (suc n) a b h k =
     go (eqb (a / 4) (b / 4)) refl (λ (o : a / 4 ≢ b / 4). hit n (a + 4) b (omega arith) (omega arith))
@@ -63,21 +60,3 @@ between n a b h = go (ltb (b / 4 - a / 4) n) refl
 
 pub before : (n a b : ℕ) → b / 4 < a / 4 → false ≡ hits (span n a) b
 before n a b h = sym (no-hit n a b (inl h))
-
--- ---- addresses modulo 2^32 decide the same, at every length that a memory has
-
-abbrev wrapped : ℕ → ℕ → List ℕ
-wrapped zero a = []
-wrapped (suc n) a = a ∷ wrapped n (next a)
-
-pub wraps-alike : (n a length : ℕ) → a < 2 ^ 32 → length ≤ 65536 → outside (wrapped n a) length ≡ outside (span n a) length
-wraps-alike zero a length h l = refl
-wraps-alike (suc n) a length h l = go (ltb a length) refl (λ (i : a < length). wraps-alike n (a + 4) length (omega arith) l)
-  where
-    go : (t : Bool) → ltb a length ≡ t → (a < length → outside (wrapped n (a + 4)) length ≡ outside (span n (a + 4)) length)
-        → (not t || outside (wrapped n (next a)) length) ≡ (not t || outside (span n (a + 4)) length)
-    go false e r = refl
-    go true e r =
-        let i : a < length = ltb-true a length e in
-        let s : next a ≡ a + 4 = mod-eq-of-lt (omega arith) in
-        rw s (r i)

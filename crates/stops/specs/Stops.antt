@@ -92,10 +92,14 @@ abbrev pub hits : List ℕ → ℕ → Bool
 hits [] b = false
 hits (a ∷ rest) b = eqb (a / 4) (b / 4) || hits rest b
 
--- 24 for an address moved, else 25 for one stored, of an instruction at a: where both apply it is 24
+-- 24 where an address moved is outside, else 25 where one stored is fetched already
+abbrev pub ordered : Bool → Bool → ℕ
+ordered out fetched = pick out 24 (pick fetched 25 0)
+
+-- 24 and 25 of the addresses moved and stored by an instruction at a
 unfoldable pub movedStop : List ℕ → List ℕ → ℕ → Board → ℕ
 movedStop moved stored a board =
-    pick (outside moved (board .length)) 24 (pick (hits stored (ahead a 4) || hits stored (ahead a 8)) 25 0)
+    ordered (outside moved (board .length)) (hits stored (ahead a 4) || hits stored (ahead a 8))
 
 -- the stop that an instruction at a meets, or 0
 unfoldable pub stopOf : Instruction → List ℕ → ℕ → ℕ → Board → ℕ

@@ -32,10 +32,10 @@ fn rm_is_15(o: Operand) -> bool
     match o {
         Operand::Constant { .. } => false,
         Operand::ShiftByAmount {
-            rm,
+            rm: offset,
             shift: _,
             amount: _,
-        } => 15 <= rm,
+        } => 15 <= offset,
         Operand::ShiftByRegister {
             rm,
             shift: _,
@@ -83,14 +83,14 @@ pub fn single_rule(i: Single) -> u32
     if byte_15(i) { 5 } else { 0 }
 }
 
-pub fn block_rule(i: Block) -> u32
-    ensures { λ r. ⌜ r ≡ ruleBroken (Instruction.Block i) ⌝ }
+pub fn block_rule(b: Block) -> u32
+    ensures { λ r. ⌜ r ≡ ruleBroken (Instruction.Block b) ⌝ }
 {
-    if 15 <= i.rn {
+    if 15 <= b.rn {
         return 6;
     }
-    if i.s {
+    if b.s {
         return 7;
     }
-    if count(i.list) == 0 { 8 } else { 0 }
+    if count(b.list) == 0 { 8 } else { 0 }
 }

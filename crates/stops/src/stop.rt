@@ -6,7 +6,7 @@ ghost use Rattle.datapath.specs.Counter.{ahead};
 ghost use Prim.Native.Nat.{ℕ};
 ghost use Rattle.bits.specs.Choice.{pick};
 ghost use Rattle.word.specs.declared.Instruction.{Instruction};
-ghost use Rattle.stops.specs.Stops.{span, hits, movedStop, stopOf, stopFor};
+ghost use Rattle.stops.specs.Stops.{span, hits, ordered, movedStop, stopOf, stopFor};
 ghost use Rattle.stops.specs.declared.Board.{Board};
 use crate::Board;
 use crate::rules::block_rule;
@@ -34,17 +34,25 @@ fn fetched_ahead(first: u32, n: u32, a: u32) -> bool
     hits(first, n, ahead(a, 4)) | hits(first, n, ahead(a, 8))
 }
 
+// 24 before 25.
+fn ordered(out: bool, fetched: bool) -> u32
+    ensures { λ r. ⌜ r ≡ ordered out fetched ⌝ }
+{
+    if out {
+        return 24;
+    }
+    if fetched { 25 } else { 0 }
+}
+
 // 24 and 25 of n words from a first address on.
 fn moved_stop(first: u32, n: u32, load: bool, a: u32, board: Board) -> u32
     ensures { λ r. ⌜ r ≡ movedStop (span n first) (pick load [] (span n first)) a board ⌝ }
 {
-    if outside(first, n, board.length) {
-        return 24;
-    }
+    let out = outside(first, n, board.length);
     if load {
-        return 0;
+        return ordered(out, false);
     }
-    if fetched_ahead(first, n, a) { 25 } else { 0 }
+    ordered(out, fetched_ahead(first, n, a))
 }
 
 pub fn processing_stop(i: Processing) -> u32

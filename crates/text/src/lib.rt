@@ -1,7 +1,7 @@
 // Text put into a lent buffer of 512 bytes, piece after piece. Each call takes the place where the text ends and hands
 // back where it ends then; what does not fit is left out, so that callers owe no proof of room.
 ghost use mathlib.Core.Path.{_≡_};
-ghost use Prim.Native.Nat.{_<_, _≤_};
+ghost use Prim.Native.Nat.{_<_};
 ghost use Rattle.text.specs.Text.{digit, hexDigits, decimal};
 ghost use Rattle.text.specs.Output.{output, putByte, put};
 
@@ -38,8 +38,8 @@ pub fn literal(out: &mut [u8; 512], at: usize, text: &[u8]) -> usize
     end
 }
 
+// The lowest digits of n, as many as asked for, by one call of itself for each.
 pub fn hex(out: &mut [u8; 512], at: usize, n: u32, digits: usize) -> usize
-    requires { ⌜ digits ≤ 8 ⌝ }
     ensures { λ r. ⌜ output (now (out .exit)) r ≡ put (output (now (out .entry)) at) (hexDigits digits n) ⌝ }
 {
     if digits == 0 {

@@ -8,7 +8,7 @@ use Prim.Native.Nat.{ℕ, zero, suc, _+_, _*_, _^_, _<_}
 use native.Mathlib.Nat.{mod-eq-of-lt}
 use native.Mathlib.Omega.{arith}
 use lib.Dec.{ltb}
-use lib.ListN.{length, getD, set, length-set}
+use lib.ListN.{length, getD, set}
 use lib.Seq.{getD-set-same, getD-set-other}
 use borrow.Author.Tests.{lt-ltb}
 use Rattle.bits.specs.Choice.{pick}
@@ -17,42 +17,23 @@ use Rattle.registers.specs.declared.Goes.the-variants.{Next, To}
 use Rattle.registers.specs.Registers.{put, out, arrives}
 use Rattle.transfer.specs.Block.{next, loads}
 use Rattle.transfer.proofs.NamedRegisters.{Rising}
+use Rattle.transfer.proofs.NamedPlaces.{At, Absent, rising-absent}
+use Rattle.transfer.proofs.Lengths.{put-length}
+use Rattle.transfer.proofs.Written.{put-other, put-same}
 
--- what a register written keeps
-put-length : (g : List ℕ) (x v : ℕ) → length (put g x v) ≡ length g
-unfolding put
-put-length g x v = go (ltb x 15)
-  where
-    go : (t : Bool) → length (pick t (set g x v) g) ≡ length g
-    go true = length-set g x v
-    go false = refl
-
-put-other : (g : List ℕ) (x v r : ℕ) → r ≢ x → getD (put g x v) r 0 ≡ getD g r 0
-unfolding put
-put-other g x v r n = go (ltb x 15)
-  where
-    go : (t : Bool) → getD (pick t (set g x v) g) r 0 ≡ getD g r 0
-    go true = getD-set-other g x r v 0 n
-    go false = refl
-
-put-same : (g : List ℕ) (x v : ℕ) → x < 15 → length g ≡ 15 → getD (put g x v) x 0 ≡ v
-unfolding put
-put-same g x v h l = rw (lt-ltb x 15 h) (getD-set-same g x v 0 (omega arith))
-
+-- the word of register x goes to it, and the rest is kept
 module _ (f : ℕ) (mem : List ℕ) where
-  -- a register below those named is kept
-  kept-lower : (xs g : List ℕ) (a n r : ℕ) → Rising 16 n xs → r < n → getD (loads xs g f a mem .registers) r 0 ≡ getD g r 0
+  -- registers that are not named
+  pub loads-kept : (xs g : List ℕ) (a r : ℕ) → Absent r xs → getD (loads xs g f a mem .registers) r 0 ≡ getD g r 0
   unfolding loads arrives
-  kept-lower [] g a n r u h = refl
-  kept-lower (x ∷ []) g a n r u h = go (ltb x 15)
+  loads-kept [] g a r u = refl
+  loads-kept (x ∷ []) g a r u = go (ltb x 15)
     where
       go : (t : Bool) → getD (pick t (out (set g x (readWord mem a)) f Next) (out g f (To (readWord mem a))) .registers) r 0 ≡ getD g r 0
-      go true = let d : r ≢ x = λ (e : r ≡ x). omega (arith, u .0) in getD-set-other g x r (readWord mem a) 0 d
+      go true = getD-set-other g x r (readWord mem a) 0 (u .0)
       go false = refl
-  kept-lower (x ∷ (y ∷ ys)) g a n r u h =
-      let d : r ≢ x = λ (e : r ≡ x). omega (arith, u .0) in
-      kept-lower (y ∷ ys) (put g x (readWord mem a)) (next a) (suc x) r (u .2) (omega (arith, u .0))
-      ∙ put-other g x (readWord mem a) r d
+  loads-kept (x ∷ (y ∷ ys)) g a r u =
+      loads-kept (y ∷ ys) (put g x (readWord mem a)) (next a) r (u .1) ∙ put-other g x (readWord mem a) r (u .0)
 
   pub loaded-at : (xs g : List ℕ) (a n k : ℕ) → Rising 16 n xs → length g ≡ 15 → k < length xs → getD xs k 16 < 15 → a + 4 * length xs < 2 ^ 32
       → getD (loads xs g f a mem .registers) (getD xs k 16) 0 ≡ readWord mem (a + 4 * k)
@@ -65,7 +46,7 @@ module _ (f : ℕ) (mem : List ℕ) where
   loaded-at (x ∷ (y ∷ ys)) g a n zero u l h below w =
       let e : a + 4 * 0 ≡ a = omega arith in
       rw e
-      (kept-lower (y ∷ ys) (put g x (readWord mem a)) (next a) (suc x) x (u .2) (omega arith)
+      (loads-kept (y ∷ ys) (put g x (readWord mem a)) (next a) x (rising-absent 16 (suc x) x (y ∷ ys) (omega arith) (u .2))
       ∙ put-same g x (readWord mem a) below l)
   loaded-at (x ∷ (y ∷ ys)) g a n (suc k) u l h below w =
       let e : next a ≡ a + 4 = mod-eq-of-lt (omega arith) in
@@ -76,3 +57,41 @@ module _ (f : ℕ) (mem : List ℕ) where
       loaded-at (y ∷ ys) put-g (a + 4) (suc x) k (u .2) (omega arith) (omega arith) below (omega arith) in
       ap (λ (b : ℕ). getD (loads (y ∷ ys) put-g f b mem .registers) (getD (y ∷ ys) k 16) 0) e
       ∙ rest ∙ ap (readWord mem) (sym d)
+
+  -- ---- R15, which is the last
+
+  pub loads-flags : (xs g : List ℕ) (a : ℕ) → loads xs g f a mem .flags ≡ f
+  unfolding loads arrives
+  loads-flags [] g a = refl
+  loads-flags (x ∷ []) g a = go (ltb x 15)
+    where
+      go : (t : Bool) → pick t (out (set g x (readWord mem a)) f Next) (out g f (To (readWord mem a))) .flags ≡ f
+      go true = refl
+      go false = refl
+  loads-flags (x ∷ (y ∷ ys)) g a = loads-flags (y ∷ ys) (put g x (readWord mem a)) (next a)
+
+  pub goes-on : (xs g : List ℕ) (a n : ℕ) → Rising 16 n xs → Absent 15 xs → loads xs g f a mem .goes ≡ Next
+  unfolding loads arrives
+  goes-on [] g a n u away = refl
+  goes-on (x ∷ []) g a n u away =
+      let other : 15 ≢ x = away .0 in
+      let low : x < 15 = omega (arith, u .1) in
+      rw (lt-ltb x 15 low)
+  goes-on (x ∷ (y ∷ ys)) g a n u away = goes-on (y ∷ ys) (put g x (readWord mem a)) (next a) (suc x) (u .2) (away .1)
+
+  pub goes-to : (xs g : List ℕ) (a n k : ℕ) → Rising 16 n xs → At 15 k xs → a + 4 * length xs < 2 ^ 32
+      → loads xs g f a mem .goes ≡ To (readWord mem (a + 4 * k))
+  unfolding loads arrives
+  goes-to [] g a n k u at w = absurd (omega (arith, at .0))
+  goes-to (x ∷ []) g a n zero u at w =
+      let e : a + 4 * 0 ≡ a = omega arith in
+      rw (e, at .1)
+  goes-to (x ∷ []) g a n (suc k) u at w = absurd (omega (arith, at .0))
+  goes-to (x ∷ (y ∷ ys)) g a n zero u at w = absurd (omega (arith, at .1, u .2 .0, u .2 .1))
+  goes-to (x ∷ (y ∷ ys)) g a n (suc k) u at w =
+      let e : next a ≡ a + 4 = mod-eq-of-lt (omega arith) in
+      let d : a + 4 * suc k ≡ a + 4 + 4 * k = omega arith in
+      let put-g = put g x (readWord mem a) in
+      let rest : loads (y ∷ ys) put-g f (a + 4) mem .goes ≡ To (readWord mem (a + 4 + 4 * k)) =
+      goes-to (y ∷ ys) put-g (a + 4) (suc x) k (u .2) (omega (arith, at .0), at .1) (omega arith) in
+      ap (λ (b : ℕ). loads (y ∷ ys) put-g f b mem .goes) e ∙ rest ∙ ap (λ (b : ℕ). To (readWord mem b)) (sym d)

@@ -1,6 +1,10 @@
 pub mod NamedRegisters
+pub mod NamedPlaces
 pub mod Moves
 pub mod Lengths
 pub mod Modes
+pub mod Written
 pub mod Places
 pub mod Arrivals
+pub mod Blocks
+pub mod Indexing

@@ -4,7 +4,7 @@ use mathlib.Core.Path.{_≡_, refl, sym, ap, _∙_}
 use mathlib.Core.List.{List, [], _∷_, tail}
 use mathlib.Core.Logic.{_⊎_, inl, inr, ⊎-elim}
 use Prim.Native.Nat.{ℕ, zero, suc, _+_, _-_, _*_, _/_, _%_, _^_, _≤_, _<_}
-use native.Mathlib.Nat.{add-zero, zero-add, pow-suc, eq-zero-or-pos}
+use native.Mathlib.Nat.{add-zero, zero-add, add-comm, mul-zero, mul-suc, one-mul, mul-comm, mul-assoc, mod-eq-of-lt, pow-suc, eq-zero-or-pos}
 use native.Mathlib.Numerals.{add-one}
 use native.Mathlib.Omega.{arith}
 use lib.Count.{onesIn, ones, ones-step, trailingZeros}
@@ -13,28 +13,28 @@ use lib.Seq.{drop-nil}
 use lib.Pow.{mod-pow-add}
 use borrow.Author.Tests.{eq-eqb, ne-eqb}
 use Rattle.bits.specs.Bits.{bit, field}
-use Rattle.transfer.specs.Block.{namedFrom, named}
+use Rattle.transfer.specs.Block.{namedFrom, named, listOf}
 
 -- ---- one bit of a list
 
 -- a number is even or odd
-abbrev Parity : ℕ → Type 0
+abbrev pub Parity : ℕ → Type 0
 Parity x = (x % 2 ≡ 0) ⊎ (x % 2 ≡ 1)
 
-parity : (x : ℕ) → Parity x
+pub parity : (x : ℕ) → Parity x
 parity x = ⊎-elim inl (λ (p : 0 < x % 2). inr (omega arith)) (eq-zero-or-pos (x % 2))
 
 module _ (k n x : ℕ) where
-  from-odd : x % 2 ≡ 1 → namedFrom (suc k) n x ≡ n ∷ namedFrom k (suc n) (x / 2)
+  pub from-odd : x % 2 ≡ 1 → namedFrom (suc k) n x ≡ n ∷ namedFrom k (suc n) (x / 2)
   unfolding namedFrom bit field
   from-odd e = rw (eq-eqb (x / 1 % 2) 1 (omega arith))
 
-  from-even : x % 2 ≡ 0 → namedFrom (suc k) n x ≡ namedFrom k (suc n) (x / 2)
+  pub from-even : x % 2 ≡ 0 → namedFrom (suc k) n x ≡ namedFrom k (suc n) (x / 2)
   unfolding namedFrom bit field
   from-even e = rw (ne-eqb (x / 1 % 2) 1 (λ f. omega arith))
 
 -- the low bits of a number, the lowest apart
-mod-suc : (x k : ℕ) → x % 2 ^ suc k ≡ x / 2 % 2 ^ k * 2 + x % 2
+pub mod-suc : (x k : ℕ) → x % 2 ^ suc k ≡ x / 2 % 2 ^ k * 2 + x % 2
 mod-suc x k = rw (← add-one k) (mod-pow-add x k 1)
 
 -- ---- the count
@@ -86,6 +86,10 @@ pub named-mod : (list : ℕ) → named (list % 65536) ≡ named list
 unfolding named
 named-mod list = from-mod 16 0 list
 
+-- n is a count of set bits
+pub named-below : (list : ℕ) → ones (list % 2 ^ 16) ≡ length (named list)
+named-below list = named-count (list % 2 ^ 16) (omega arith) ∙ ap length (named-mod list)
+
 -- ---- the lowest register, and the others
 
 module _ (m x : ℕ) where
@@ -123,6 +127,39 @@ pub named-step : (list : ℕ) → 0 < list % 65536
 unfolding named
 named-step list h = rw zero-add at (from-step 16 0 32 list (omega arith) h)
 
+-- ---- a list is the sum of its registers' bits
+
+from-list : (k n x : ℕ) → listOf (namedFrom k n x) ≡ 2 ^ n * (x % 2 ^ k)
+unfolding namedFrom listOf
+from-list zero n x = let e : x % 1 ≡ 0 = omega arith in rw e (sym (mul-zero (2 ^ n)))
+from-list (suc k) n x = go (from-list k (suc n) (x / 2)) (parity x)
+  where
+    half : ℕ
+    half = x / 2 % 2 ^ k
+
+    double : 2 ^ suc n * half ≡ 2 ^ n * (half * 2)
+    double = rw (pow-suc 2 n) (mul-assoc (2 ^ n) 2 half ∙ ap (λ (m : ℕ). 2 ^ n * m) (mul-comm 2 half))
+
+    go : listOf (namedFrom k (suc n) (x / 2)) ≡ 2 ^ suc n * half → Parity x
+        → listOf (namedFrom (suc k) n x) ≡ 2 ^ n * (x % 2 ^ suc k)
+    go rest (inl e) =
+        let even : x % 2 ^ suc k ≡ half * 2 = omega (arith, mod-suc x k) in
+        rw (from-even k n x e, even, rest, double)
+    go rest (inr e) =
+        let odd : x % 2 ^ suc k ≡ suc (half * 2) = omega (arith, mod-suc x k) in
+        rw (from-odd k n x e, odd, rest, double) (add-comm (2 ^ n) (2 ^ n * (half * 2)) ∙ sym (mul-suc (2 ^ n) (half * 2)))
+
+pub named-list : (list : ℕ) → listOf (named list) ≡ list % 65536
+unfolding named
+named-list list = from-list 16 0 list ∙ one-mul (list % 65536)
+
+-- the list of what a list of 16 bits names is itself
+pub list-of : (r : ℕ) (xs : List ℕ) → r < 65536 → named r ≡ xs → r ≡ listOf xs
+list-of r xs h e = sym (mod-eq-of-lt h) ∙ sym (named-list r) ∙ ap listOf e
+
+pub list-lt : (r : ℕ) (xs : List ℕ) → named r ≡ xs → r ≡ listOf xs → r < 65536
+list-lt r xs e l = omega (arith, l ∙ ap listOf (sym e) ∙ named-list r)
+
 -- ---- they rise
 
 -- strictly rising, from n on and below m
@@ -134,7 +171,7 @@ rising-down : (m n : ℕ) (xs : List ℕ) → Rising m (suc n) xs → Rising m n
 rising-down m n [] r = tt
 rising-down m n (x ∷ xs) r = (omega arith, r .1, r .2)
 
-from-rising : (k n x : ℕ) → Rising (n + k) n (namedFrom k n x)
+pub from-rising : (k n x : ℕ) → Rising (n + k) n (namedFrom k n x)
 unfolding namedFrom
 from-rising zero n x = tt
 from-rising (suc k) n x = go (from-rising k (suc n) (x / 2)) (parity x)

@@ -3,6 +3,7 @@
 use mathlib.Core.Path.{_≡_, refl, _∙_}
 use mathlib.Core.Bool.{true}
 use mathlib.Core.List.{List, [], _∷_}
+use mathlib.Core.Logic.{_⊎_, inl, inr, ⊎-elim}
 use Prim.Native.Nat.{ℕ, zero, suc, _+_, _*_, _/_, _%_, _^_, _≤_, _<_}
 use native.Mathlib.Nat.{mod-eq-of-lt}
 use native.Mathlib.Omega.{arith}
@@ -13,18 +14,22 @@ use Rattle.memory.proofs.Laws.{read-other, read-back, write-length}
 use Rattle.transfer.specs.Single.{storedValue}
 use Rattle.transfer.specs.Block.{next, stores, storesAll}
 
+-- the word of an address is none of n from a on
+abbrev pub Beside : ℕ → ℕ → ℕ → Type 0
+Beside n a b = (b / 4 < a / 4) ⊎ (a / 4 + n ≤ b / 4)
+
 -- registers g, flags f and a12 store words; no address wraps
 module _ (g : List ℕ) (f a12 : ℕ) (words : (n : ℕ) → storedValue g n f a12 < 2 ^ 32) where
-  -- a word below the first is kept
-  kept-below : (xs : List ℕ) (a : ℕ) (mem : List ℕ) (b : ℕ) → b / 4 < a / 4 → a + 4 * length xs < 2 ^ 32
+  -- the words beside are kept
+  stores-kept : (xs : List ℕ) (a : ℕ) (mem : List ℕ) (b : ℕ) → Beside (length xs) a b → a + 4 * length xs < 2 ^ 32
       → readWord (stores xs g f a12 a mem) b ≡ readWord mem b
   unfolding stores
-  kept-below [] a mem b h l = refl
-  kept-below (x ∷ xs) a mem b h l =
+  stores-kept [] a mem b h l = refl
+  stores-kept (x ∷ xs) a mem b h l =
       let e : next a ≡ a + 4 = mod-eq-of-lt (omega arith) in
-      rw e
-      (kept-below xs (a + 4) (writeWord mem a (storedValue g x f a12)) b (omega arith) (omega arith)
-      ∙ read-other mem a b (storedValue g x f a12) (λ (q : a / 4 ≡ b / 4). omega arith))
+      let later : Beside (length xs) (a + 4) b = ⊎-elim (λ o. inl (omega arith)) (λ o. inr (omega arith)) h in
+      let other : a / 4 ≡ b / 4 → ⊥ = λ q. ⊎-elim (λ o. omega arith) (λ o. omega arith) h in
+      rw e (stores-kept xs (a + 4) (writeWord mem a (storedValue g x f a12)) b later (omega arith) ∙ read-other mem a b (storedValue g x f a12) other)
 
   -- the word stored before the others
   first-kept : (xs : List ℕ) (a v : ℕ) (mem : List ℕ) → a % 4 ≡ 0 → a + 4 * suc (length xs) ≤ length mem → length mem < 2 ^ 32 → v < 2 ^ 32
@@ -33,9 +38,9 @@ module _ (g : List ℕ) (f a12 : ℕ) (words : (n : ℕ) → storedValue g n f a
   first-kept xs a v mem w i l bound =
       let e : next a ≡ a + 4 = mod-eq-of-lt (omega arith) in
       let held : holdsWord mem a ≡ true = lt-ltb (wordBase a + 3) (length mem) (omega arith) in
-      rw e (kept-below xs (a + 4) (writeWord mem a v) a (omega arith) (omega arith) ∙ read-back mem a v held bound)
+      rw e (stores-kept xs (a + 4) (writeWord mem a v) a (inl (omega arith)) (omega arith) ∙ read-back mem a v held bound)
 
-  pub stored-at : (xs : List ℕ) (a : ℕ) (mem : List ℕ) (k : ℕ) → k < length xs → a % 4 ≡ 0 → a + 4 * length xs ≤ length mem
+  stored-at : (xs : List ℕ) (a : ℕ) (mem : List ℕ) (k : ℕ) → k < length xs → a % 4 ≡ 0 → a + 4 * length xs ≤ length mem
       → length mem < 2 ^ 32
       → readWord (stores xs g f a12 a mem) (a + 4 * k) ≡ storedValue g (getD xs k 16) f a12
   unfolding stores
@@ -54,25 +59,38 @@ module _ (g : List ℕ) (f a12 : ℕ) (words : (n : ℕ) → storedValue g n f a
 module _
     (g h : List ℕ)
     (f a12 : ℕ)
-    (words : (n : ℕ) → storedValue h n f a12 < 2 ^ 32)
-    (x : ℕ)
-    (xs : List ℕ)
+    (old : (n : ℕ) → storedValue g n f a12 < 2 ^ 32)
+    (new : (n : ℕ) → storedValue h n f a12 < 2 ^ 32)
     (a : ℕ)
     (mem : List ℕ)
     (aligned : a % 4 ≡ 0)
-    (inside : a + 4 * suc (length xs) ≤ length mem)
     (short : length mem < 2 ^ 32)
   where
-    pub lowest-at : storedValue g x f a12 < 2 ^ 32 → readWord (storesAll (x ∷ xs) g h f a12 a mem) a ≡ storedValue g x f a12
+    pub lowest-at : (xs : List ℕ) → a + 4 * length xs ≤ length mem → 0 < length xs
+        → readWord (storesAll xs g h f a12 a mem) a ≡ storedValue g (getD xs 0 16) f a12
     unfolding storesAll
-    lowest-at word = first-kept h f a12 words xs a (storedValue g x f a12) mem aligned inside short word
+    lowest-at [] inside l = absurd (omega arith)
+    lowest-at (x ∷ xs) inside l = first-kept h f a12 new xs a (storedValue g x f a12) mem aligned inside short (old x)
 
-    pub other-at : (k : ℕ) → k < length xs
-        → readWord (storesAll (x ∷ xs) g h f a12 a mem) (a + 4 * suc k) ≡ storedValue h (getD xs k 16) f a12
+    pub other-at : (xs : List ℕ) → a + 4 * length xs ≤ length mem → (k : ℕ) → suc k < length xs
+        → readWord (storesAll xs g h f a12 a mem) (a + 4 * suc k) ≡ storedValue h (getD xs (suc k) 16) f a12
     unfolding storesAll
-    other-at k l =
+    other-at [] inside k l = absurd (omega arith)
+    other-at (x ∷ xs) inside k l =
         let e : next a ≡ a + 4 = mod-eq-of-lt (omega arith) in
         let d : a + 4 * suc k ≡ a + 4 + 4 * k = omega arith in
         let same : length (writeWord mem a (storedValue g x f a12)) ≡ length mem = write-length mem a (storedValue g x f a12) in
         rw (e, d)
-        (stored-at h f a12 words xs (a + 4) (writeWord mem a (storedValue g x f a12)) k l (omega arith) (omega arith) (omega arith))
+        (stored-at h f a12 new xs (a + 4) (writeWord mem a (storedValue g x f a12)) k (omega arith) (omega arith) (omega arith) (omega arith))
+
+    pub all-kept : (xs : List ℕ) → a + 4 * length xs ≤ length mem → (b : ℕ) → Beside (length xs) a b
+        → readWord (storesAll xs g h f a12 a mem) b ≡ readWord mem b
+    unfolding storesAll
+    all-kept [] inside b beside = refl
+    all-kept (x ∷ xs) inside b beside =
+        let e : next a ≡ a + 4 = mod-eq-of-lt (omega arith) in
+        let later : Beside (length xs) (a + 4) b = ⊎-elim (λ o. inl (omega arith)) (λ o. inr (omega arith)) beside in
+        let other : a / 4 ≡ b / 4 → ⊥ = λ q. ⊎-elim (λ o. omega arith) (λ o. omega arith) beside in
+        rw e
+        (stores-kept h f a12 new xs (a + 4) (writeWord mem a (storedValue g x f a12)) b later (omega arith)
+        ∙ read-other mem a b (storedValue g x f a12) other)

@@ -1,5 +1,6 @@
 -- Block transfers (paper 01, "Block").
 use Prim.Native.Nat.{ℕ, zero, suc, _+_, _*_, _/_, _%_, _^_}
+use mathlib.Core.Bool.{Bool}
 use mathlib.Core.List.{List, [], _∷_}
 use lib.ListN.{length}
 use Rattle.bits.specs.Choice.{pick}
@@ -19,6 +20,11 @@ namedFrom (suc k) n list =
 unfoldable pub named : ℕ → List ℕ
 named list = namedFrom 16 0 list
 
+-- the list that names these registers, a bit for each
+unfoldable pub listOf : List ℕ → ℕ
+listOf [] = 0
+listOf (x ∷ xs) = 2 ^ x + listOf xs
+
 -- n of the paper, the count of the named registers
 abbrev pub count : Block → ℕ
 count i = length (named (i .list))
@@ -31,13 +37,13 @@ baseOf i g = register g (i .rn) 0
 unfoldable pub changedBase : Block → List ℕ → ℕ
 changedBase i g = moved (i .u) (baseOf i g) (4 * count i)
 
--- the lowest address, low two bits cleared: U=1: base, P=1 base+4; U=0: base-4n+4, P=1 base-4n
+-- how far above the base, or the changed base if U=0, the words begin: U=1: base, P=1 base+4; U=0: base-4n+4, P=1 base-4n
+abbrev pub above : Bool → Bool → ℕ
+above u p = pick u (pick p 4 0) (pick p 0 4)
+
+-- the lowest address, low two bits cleared
 unfoldable pub lowestAddress : Block → List ℕ → ℕ
-lowestAddress i g =
-    wordBase
-    (pick (i .u)
-    (pick (i .p) ((baseOf i g + 4) % 2 ^ 32) (baseOf i g))
-    (pick (i .p) (changedBase i g) ((changedBase i g + 4) % 2 ^ 32)))
+lowestAddress i g = wordBase ((pick (i .u) (baseOf i g) (changedBase i g) + above (i .u) (i .p)) % 2 ^ 32)
 
 unfoldable pub withBase : Block → List ℕ → ℕ → List ℕ
 withBase i g base = pick (i .w) (put g (i .rn) base) g

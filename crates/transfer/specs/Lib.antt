@@ -1,2 +1,4 @@
 pub mod Single
 pub mod Block
+pub mod Modes
+pub mod Indexing

@@ -1,9 +1,10 @@
-// Block transfers (paper 01, "Block"). a12 is what R15 reads as, A+8.
+// Block transfers (paper 01, "Block"). a12 is A+12, with which R15 is stored.
 ghost use mathlib.Core.Path.{_≡_};
+ghost use Prim.Native.Nat.{_+_, _%_, _^_};
 ghost use lib.ListN.{take};
 ghost use Rattle.memory.specs.Memory.{wordBase};
 ghost use Rattle.registers.specs.Registers.{out};
-ghost use Rattle.transfer.specs.Block.{named, baseOf, changedBase, lowestAddress, withBase, next, loads, stores, storesAll};
+ghost use Rattle.transfer.specs.Block.{named, baseOf, changedBase, above, lowestAddress, withBase, next, loads, stores, storesAll};
 use crate::named;
 use crate::single;
 use memory;
@@ -33,30 +34,33 @@ pub fn changed_base(i: Block, registers: &[u32; 15]) -> u32
     single::moved(i.u, base(i, registers), 4 * named::count(i.list))
 }
 
-fn word_base(address: u32) -> u32
-    ensures { λ r. ⌜ r ≡ wordBase address ⌝ }
+// How far above the base, or the changed base if U=0, the words begin.
+fn above(u: bool, p: bool) -> u32
+    ensures { λ r. ⌜ r ≡ above u p ⌝ }
 {
-    address / 4 * 4
+    if u {
+        if p { 4 } else { 0 }
+    } else {
+        if p { 0 } else { 4 }
+    }
+}
+
+// The word so far above an address.
+fn begin(low: u32, by: u32) -> u32
+    ensures { λ r. ⌜ r ≡ wordBase ((low + by) % 2 ^ 32) ⌝ }
+{
+    std::num::wrapping_add_u32(low, by) / 4 * 4
 }
 
 // Where the lowest register goes, low two bits cleared.
 pub fn lowest_address(i: Block, registers: &[u32; 15]) -> u32
     ensures { λ r. ⌜ r ≡ lowestAddress i (now (registers .entry)) ⌝ }
 {
+    let by = above(i.u, i.p);
     if i.u {
-        let low = base(i, registers);
-        if i.p {
-            word_base(next(low))
-        } else {
-            word_base(low)
-        }
+        begin(base(i, registers), by)
     } else {
-        let low = changed_base(i, registers);
-        if i.p {
-            word_base(low)
-        } else {
-            word_base(next(low))
-        }
+        begin(changed_base(i, registers), by)
     }
 }
 

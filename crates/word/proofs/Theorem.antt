@@ -23,7 +23,7 @@ use Rattle.word.specs.declared.Written.{Written}
 use Rattle.word.specs.declared.Written.the-variants.{Word, Refused}
 use Rattle.word.proofs.Fields.{fill, widths, never, packs-back, unpacks-all, Reads}
 
-field-whole : (w : ℕ) → w < 2 ^ 32 → field w 0 32 ≡ w
+pub field-whole : (w : ℕ) → w < 2 ^ 32 → field w 0 32 ≡ w
 unfolding field
 field-whole w h = rw (div-one w) (mod-eq-of-lt h)
 
@@ -50,14 +50,14 @@ module _ (w : ℕ) (h : w < 2 ^ 32) where
   back (suc (suc (suc (suc (suc (suc (suc zero))))))) b4 b7 e f g r = other-back w h (ap isOther r)
   back (suc (suc (suc (suc (suc (suc (suc (suc k)))))))) b4 b7 e f g r = absurd (omega (arith, field-lt w 25 3))
 
-written-back : (w : ℕ) → w < 2 ^ 32 → written (readOf w) ≡ Word w
+pub written-back : (w : ℕ) → w < 2 ^ 32 → written (readOf w) ≡ Word w
 unfolding readOf
 written-back w h =
     back w h (field w 25 3) (bit w 4) (bit w 7) refl (sym (num-bit w 4)) (sym (num-bit w 7)) refl
 
 -- ---- an accepted record is read as it was written
 
-allowed : (b : Bool) (m : Written) (w : ℕ) → allow b m ≡ Word w → (b ≡ true) × (m ≡ Word w)
+pub allowed : (b : Bool) (m : Written) (w : ℕ) → allow b m ≡ Word w → (b ≡ true) × (m ≡ Word w)
 allowed true m w e = (refl, e)
 allowed false m w e = absurd (never w e)
 
@@ -80,7 +80,7 @@ other-is w k b4 b7 =
 
 -- where the fields of a record stand in a word, the word reads as the record; the operand's kind decides bits 27..25, 7 and 4
 module _ (w condition : ℕ) where
-  processing-reads : (operation : ℕ) (s : Bool) (rn rd : ℕ) (o : Operand)
+  pub processing-reads : (operation : ℕ) (s : Bool) (rn rd : ℕ) (o : Operand)
       → Reads w 32 (processingFields (record { condition = condition; operation = operation; s = s; rn = rn; rd = rd; operand = o }))
       → readOf w ≡ Instruction.Processing (record { condition = condition; operation = operation; s = s; rn = rn; rd = rd; operand = o })
   unfolding readOf bit
@@ -89,7 +89,7 @@ module _ (w condition : ℕ) where
   processing-reads operation s rn rd (ShiftByRegister rm shift rs) r = cc (bit-num s)
 
   module _ (p u b x l : Bool) (rn : ℕ) where
-    single-reads : (rd : ℕ) (o : Operand) → singleHas o ≡ true
+    pub single-reads : (rd : ℕ) (o : Operand) → singleHas o ≡ true
         → Reads w 32 (singleFields (record { condition = condition; p = p; u = u; b = b; w = x; l = l; rn = rn; rd = rd; offset = o }))
         → readOf w ≡ Instruction.Single (record { condition = condition; p = p; u = u; b = b; w = x; l = l; rn = rn; rd = rd; offset = o })
     unfolding readOf bit
@@ -97,20 +97,20 @@ module _ (w condition : ℕ) where
     single-reads rd (ShiftByAmount rm shift amount) a r = cc (bit-num p, bit-num u, bit-num b, bit-num x, bit-num l)
     single-reads rd (ShiftByRegister rm shift rs) a r = cc
 
-    block-reads : (list : ℕ)
+    pub block-reads : (list : ℕ)
         → Reads w 32 (blockFields (record { condition = condition; p = p; u = u; s = b; w = x; l = l; rn = rn; list = list }))
         → readOf w ≡ Instruction.Block (record { condition = condition; p = p; u = u; s = b; w = x; l = l; rn = rn; list = list })
     unfolding readOf bit
     block-reads list r = cc (bit-num p, bit-num u, bit-num b, bit-num x, bit-num l)
 
-  branch-reads : (link : Bool) (offset : ℕ)
+  pub branch-reads : (link : Bool) (offset : ℕ)
       → Reads w 32 (branchFields (record { condition = condition; link = link; offset = offset }))
       → readOf w ≡ Instruction.Branch (record { condition = condition; link = link; offset = offset })
   unfolding readOf bit
   branch-reads link offset r = cc (bit-num link)
 
 -- the widths of an operand come to 12 bits, so that those of its class come to 32
-whole-processing : (i : Processing) → T (fill 32 (widths (processingFields i)))
+pub whole-processing : (i : Processing) → T (fill 32 (widths (processingFields i)))
 whole-processing i = go (i .operand)
   where
     go : (o : Operand) → T (fill 32 (widths (i .condition ⟨ 4 ⟩ 0 ⟨ 3 ⟩ i .operation ⟨ 4 ⟩ 0 ⟨ 1 ⟩ i .rn ⟨ 4 ⟩ i .rd ⟨ 4 ⟩ operandFields o)))
@@ -118,7 +118,7 @@ whole-processing i = go (i .operand)
     go (ShiftByAmount rm shift amount) = tt
     go (ShiftByRegister rm shift rs) = tt
 
-whole-single : (i : Single) → T (fill 32 (widths (singleFields i)))
+pub whole-single : (i : Single) → T (fill 32 (widths (singleFields i)))
 whole-single i = go (i .offset)
   where
     go : (o : Operand) → T (fill 12 (widths (operandFields o)))
@@ -149,7 +149,7 @@ back-to (Instruction.Other v) w e =
     (u .0, ap readOf same ∙ other-is v (field v 25 3) (bit v 4) (bit v 7) (a .0))
 
 -- number 0 is an accepted record
-accepted : (m : Written) → answerOf m .number ≡ 0 → m ≡ Word (answerOf m .word)
+pub accepted : (m : Written) → answerOf m .number ≡ 0 → m ≡ Word (answerOf m .word)
 accepted (Word w) e = refl
 accepted Refused e = absurd (omega arith)
 

@@ -2,3 +2,4 @@ pub mod Fields
 pub mod Reader
 pub mod Writer
 pub mod Term2
+pub mod Layout

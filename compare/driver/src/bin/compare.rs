@@ -531,12 +531,8 @@ fn run_tampered<M: Compared>(
     if held != pair.length && held <= 70_000 && random.chance(3, 4) {
         pair.resize(held);
     }
-    // An array that stands for no core is lent the memory that it names, or all that there is:
-    // the paper doesn't say which of 11 and 12 such an array answers on another one.
-    let lent = if pair.expected.is_some() && random.chance(1, 10) {
+    let lent = if random.chance(1, 10) {
         random.below(pair.most() as u32 + 1) as usize
-    } else if pair.expected.is_none() && held <= pair.most() {
-        held
     } else {
         pair.length
     };

@@ -32,8 +32,7 @@ positive : (t : ℕ) → hex-lts.Need-sub-hex (hex-below t, hex.Post, digit-read
 positive t c = omega (arith, c .before .if1 .left)
 
 recurs : (t : ℕ) → hex-lts.Need-hex-requires (hex-below t, hex.Post, digit-reads.Asked, digit-reads.Learnt) (hex-at t) hex.Post
-recurs t c κs =
-    (omega (arith, c .before .before .pre .0, c .before .if1 .left), omega (arith, c .before .before .pre .1))
+recurs t c κs = (omega (arith, c .before .before .pre .0, c .before .if1 .left), tt)
 
 returns-2 : (t : ℕ) → hex-lts.Need-returns-2 (hex-below t, hex.Post, digit-reads.Asked, digit-reads.Learnt) (hex-at t) hex.Post
 returns-2 t c =

@@ -1,7 +1,7 @@
 use borrow.Author.Needs.{needs}
 use borrow.Author.Tests.{lt-ltb, le-ltb}
 use Rattle.datapath.specs.Shifter.{asr}
-use Rattle.datapath.proofs.Shifts.{signed-whole}
+use Rattle.datapath.proofs.Moved.{signed-whole}
 use Rattle.datapath.proofs.shifter.asr.Statement.{statement}
 use Rattle.datapath.proofs.shifter.asr.Tie as tie
 

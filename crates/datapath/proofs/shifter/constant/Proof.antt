@@ -3,7 +3,7 @@ use Prim.Native.Nat.{_*_, _%_}
 use native.Mathlib.Omega.{arith}
 use borrow.Author.Needs.{needs}
 use borrow.Author.Tests.{eq-eqb, ne-eqb}
-use Rattle.datapath.specs.Shifter.{constant, ror}
+use Rattle.datapath.specs.Shifter.{constant, ror, rotated}
 use Rattle.datapath.proofs.shifter.constant.Statement.{statement}
 use Rattle.datapath.proofs.shifter.constant.Tie as tie
 
@@ -12,7 +12,7 @@ unfolding constant
 returns c = simp (eq-eqb _ _ (c .if1 .taken))
 
 returns-2 : tie.Need-returns-2
-unfolding constant ror
+unfolding constant ror rotated
 returns-2 c =
     let r = c .before .before .args .r in
     let e : r % 16 * 2 % 32 ≡ 2 * r % 32 = omega arith in

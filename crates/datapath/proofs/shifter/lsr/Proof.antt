@@ -5,7 +5,7 @@ use borrow.Author.Needs.{needs}
 use borrow.Author.Tests.{le-leb}
 use Rattle.bits.specs.Bits.{bit}
 use Rattle.datapath.specs.Shifter.{lsr}
-use Rattle.datapath.proofs.Shifts.{moved-out}
+use Rattle.datapath.proofs.Moved.{moved-out}
 use Rattle.datapath.proofs.shifter.lsr.Statement.{statement}
 use Rattle.datapath.proofs.shifter.lsr.Tie as tie
 

@@ -6,7 +6,7 @@ use lib.Pow.{pow-pos, shr-le}
 use borrow.Author.Needs.{needs}
 use Rattle.bits.specs.Bits.{bit}
 use Rattle.datapath.specs.Shifter.{signed}
-use Rattle.datapath.proofs.Shifts.{shr-ones, shr-word-lt}
+use Rattle.datapath.proofs.Moved.{shr-ones, shr-word-lt}
 use Rattle.datapath.proofs.shifter.signed.Statement.{statement}
 use Rattle.datapath.proofs.shifter.signed.Tie as tie
 

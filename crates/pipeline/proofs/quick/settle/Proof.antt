@@ -3,33 +3,35 @@ use native.Mathlib.Omega.{arith}
 use Prim.Native.Nat.{_-_}
 use lib.ListN.{length}
 use Rattle.pipeline.specs.Machine.{machine}
-use Rattle.pipeline.proofs.Turns.{Left, left-start, left-step}
-use Rattle.pipeline.proofs.Skips.{no-stop, onward-left}
+use Rattle.pipeline.proofs.Skips.{Settling, settling-start, settling-step, settling-there, settling-spent}
 use borrow.Author.Needs.{needs}
 use Rattle.pipeline.proofs.quick.settle.Statement.{statement}
 use Rattle.pipeline.proofs.quick.settle.Tie as tie
 
 abbrev Inv-loop : tie.InvT-loop
 Inv-loop registers₀ memory₀ budget at₀ used₀ registers memory at used =
-    Left budget (machine registers₀ at₀ memory₀) used (machine registers at memory) × (length memory ≡ length memory₀)
+    Settling budget (machine registers₀ at₀ memory₀) used (machine registers at memory) × (length memory ≡ length memory₀)
 
 abbrev μ-loop : tie.MeasureT-loop
 μ-loop registers₀ memory₀ budget at₀ used₀ registers memory at used = budget - used
 
 loop-holds : tie.Need-loop-holds Inv-loop μ-loop
-loop-holds c = (left-start _ _ (c .before .pre .0) (c .before .pre .1), refl)
+loop-holds c = (settling-start _ _ (c .before .pre .0) (c .before .pre .1), refl)
 
 returns : tie.Need-returns Inv-loop μ-loop
-returns c = onward-left (c .before .before .before .loop .inv .0)
+returns c = settling-there (c .before .before .before .loop .inv .0) (sym (c .before .is-step1 .ensures) ∙ c .if1 .taken)
 
 cycle-requires : tie.Need-cycle-requires Inv-loop μ-loop
-cycle-requires c κs = let l = c .before .before .before .before .before .loop .inv .0 in (omega (arith, l .room), omega (arith, l .room, l .behind))
+cycle-requires c κs = let l = c .before .before .before .before .before .loop .inv .0 .left in (omega (arith, l .room), omega (arith, l .room, l .behind))
 
 loop-again : tie.Need-loop-again Inv-loop μ-loop
-loop-again c = (left-step (c .before .before .before .before .before .before .before .before .loop .inv .0) (c .before .before .before .before .before .before .before .loop-test .taken) (no-stop _ (sym (c .before .before .before .before .before .before .is-step1 .ensures) ∙ c .before .before .before .before .before .if1 .left)) refl (c .before .before .cycle .ensures), search needs)
+loop-again c =
+    let l = c .before .before .before .before .before .before .before .before .loop .inv .0 in
+    let off = sym (c .before .before .before .before .before .before .is-step1 .ensures) ∙ c .before .before .before .before .before .if1 .left in
+    (settling-step l (c .before .before .before .before .before .before .before .loop-test .taken) off (c .before .before .cycle .ensures), search needs)
 
 returns-2 : tie.Need-returns-2 Inv-loop μ-loop
-returns-2 c = onward-left (c .before .loop .inv .0)
+returns-2 c = settling-spent (c .before .loop .inv .0) (c .loop-test .left)
 
 pub settle-spec : {M : Type 1} → statement M
 settle-spec = tie.close (tie.spec Inv-loop μ-loop loop-holds (λ c κs. search needs) (λ c. search needs) returns cycle-requires (λ c. search needs) (λ c. search needs) loop-again (λ c. search needs) returns-2)

@@ -2,23 +2,24 @@ use mathlib.Core.Path.{_≡_, refl}
 use Prim.Native.Nat.{_-_}
 use native.Mathlib.Omega.{arith}
 use borrow.Author.Needs.{needs}
-use Rattle.pipeline.specs.Whole.{between, GoesOn, Kept}
-use Rattle.pipeline.proofs.WholeSteps.{same-told, short-told, positive-told, moves-on, kept-on, goes-start}
+use Rattle.pipeline.specs.Whole.{plainly, wholes}
+use Rattle.pipeline.proofs.WholeSteps.{Going, going-start, going-short, going-stop, going-step, short-told, positive-told}
 use Rattle.pipeline.proofs.quick.whole.Statement.{statement}
 use Rattle.pipeline.proofs.quick.whole.Tie as tie
 
 abbrev Inv-loop : tie.InvT-loop
 Inv-loop registers₀ memory₀ length budget here₀ used₀ registers memory here used =
-    Kept here₀ here budget used × (lib.ListN.length memory ≡ lib.ListN.length memory₀) × GoesOn budget (between registers₀ here₀ length memory₀) used (between registers here length memory)
+    Going budget (wholes budget budget (plainly registers₀ here₀ length memory₀) (here₀ .retired) (here₀ .cycles)) here₀ length registers here memory used
+    × (lib.ListN.length memory ≡ lib.ListN.length memory₀)
 
 abbrev μ-loop : tie.MeasureT-loop
 μ-loop registers₀ memory₀ length budget here₀ used₀ registers memory here used = budget - used
 
 loop-holds : tie.Need-loop-holds Inv-loop μ-loop
-loop-holds c = (c .before .pre .2, refl, goes-start _ _)
+loop-holds c = (going-start _ _ _ _ _ (c .before .pre .1), refl)
 
-sub-loop : tie.Need-sub-loop Inv-loop μ-loop
-sub-loop c = omega (arith, c .loop .inv .0 .within)
+add-loop : tie.Need-add-loop Inv-loop μ-loop
+add-loop c = record { fits = omega (arith, c .loop .inv .0 .near, c .before .before .pre .0) }
 
 perform-at-requires : tie.Need-perform-at-requires Inv-loop μ-loop
 perform-at-requires c κs = search needs
@@ -27,41 +28,46 @@ same-length : tie.Need-same-length Inv-loop μ-loop
 same-length c = search needs
 
 returns : tie.Need-returns Inv-loop μ-loop
-returns c =
-    let s = same-told _ (c .before .before .before .before .before .before .before .before .loop .here) _ _ (c .before .before .before .before .perform-at .ensures) (c .if1 .taken) in
-    (rw (s .0, s .1) at (c .before .before .before .before .before .before .before .before .loop .inv .2), c .before .before .before .before .before .before .before .before .loop .inv .0)
+returns c = going-stop (c .before .before .before .before .before .before .before .before .loop .inv .0) (c .before .before .before .before .perform-at .ensures) (c .if1 .taken)
 
 moved-requires : tie.Need-moved-requires Inv-loop μ-loop
 moved-requires c κs =
-    let k = c .before .before .before .before .before .before .before .before .loop .inv .0 in
-    let h = short-told _ (c .before .before .before .before .before .before .before .before .loop .here) _ _ (c .before .before .before .before .perform-at .ensures) (c .if1 .left) in
-    (omega (arith, k .cycles, k .within, c .before .before .before .before .before .before .before .before .before .before .pre .1), omega (arith, k .cycles, k .within, k .retired, c .before .before .before .before .before .before .before .before .before .before .pre .1))
+    let l = c .before .before .before .before .before .before .before .before .loop .inv .0 in
+    let h = short-told l (c .before .before .before .before .perform-at .ensures) (c .if1 .left) in
+    let p = c .before .before .before .before .before .before .before .before .before .before .pre .0 in
+    (omega (arith, l .cycles, l .near), omega (arith, l .cycles, l .near, l .retired))
 
 cast-used : tie.Need-cast-used Inv-loop μ-loop
-cast-used c = let h = short-told _ (c .before .before .before .before .before .before .before .before .before .before .loop .here) _ _ (c .before .before .before .before .before .before .perform-at .ensures) (c .before .before .if1 .left) in record { fits = omega arith }
+cast-used c =
+    let l = c .before .before .before .before .before .before .before .before .before .before .loop .inv .0 in
+    let h = short-told l (c .before .before .before .before .before .before .perform-at .ensures) (c .before .before .if1 .left) in
+    record { fits = omega arith }
 
 add-used : tie.Need-add-used Inv-loop μ-loop
-add-used c = let h = short-told _ (c .before .before .before .before .before .before .before .before .before .before .loop .here) _ _ (c .before .before .before .before .before .before .perform-at .ensures) (c .before .before .if1 .left) in record { fits = omega (arith, c .before .before .before .before .before .before .before .before .before .before .loop .inv .0 .within) }
+add-used c =
+    let l = c .before .before .before .before .before .before .before .before .before .before .loop .inv .0 in
+    let h = short-told l (c .before .before .before .before .before .before .perform-at .ensures) (c .before .before .if1 .left) in
+    let p = c .before .before .before .before .before .before .before .before .before .before .before .before .pre .0 in
+    record { fits = omega (arith, l .near) }
 
 loop-less : tie.Need-loop-less Inv-loop μ-loop
 loop-less c =
-    let h = short-told _ (c .before .before .before .before .before .before .before .before .before .before .loop .here) _ _ (c .before .before .before .before .before .before .perform-at .ensures) (c .before .before .if1 .left) in
-    let z = positive-told _ (c .before .before .before .before .before .before .before .before .before .before .loop .here) _ _ (c .before .before .before .before .before .before .perform-at .ensures) (c .before .before .if1 .left) in
-    omega (arith, c .before .before .before .before .before .before .before .before .before .before .loop .inv .0 .within, c .before .before .before .before .before .before .before .before .before .loop-test .taken)
+    let l = c .before .before .before .before .before .before .before .before .before .before .loop .inv .0 in
+    let z = positive-told l (c .before .before .before .before .before .before .perform-at .ensures) (c .before .before .if1 .left) in
+    omega (arith, c .before .before .before .before .before .before .before .before .before .loop-test .taken)
 
 loop-again : tie.Need-loop-again Inv-loop μ-loop
 loop-again c =
+    let l = c .before .before .before .before .before .before .before .before .before .before .loop .inv .0 in
     let e = c .before .before .before .before .before .before .perform-at .ensures in
-    let z = c .before .before .if1 .left in
-    let i = c .before .before .before .before .before .before .before .before .before .before .loop .inv in
     rw (c .before .moved .ensures)
-    (kept-on _ _ _ _ e (i .0) z (c .before .before .before .before .before .before .before .before .before .loop-test .taken), search needs, moves-on _ _ _ _ e _ _ _ (i .2) z (c .before .before .before .before .before .before .before .before .before .loop-test .taken) (i .0 .range) (c .before .before .before .before .before .before .before .before .before .before .before .before .pre .0))
+    (going-step l e (c .before .before .before .before .before .before .before .before .before .loop-test .taken) (c .before .before .if1 .left), search needs)
 
 same-length-2 : tie.Need-same-length-2 Inv-loop μ-loop
 same-length-2 c = search needs
 
 returns-2 : tie.Need-returns-2 Inv-loop μ-loop
-returns-2 c = (c .before .loop .inv .2, c .before .loop .inv .0)
+returns-2 c = going-short (c .before .loop .inv .0) (c .loop-test .left)
 
 pub whole-spec : {M : Type 1} → statement M
-whole-spec = tie.close (tie.spec Inv-loop μ-loop loop-holds sub-loop perform-at-requires same-length returns moved-requires cast-used add-used loop-less loop-again same-length-2 returns-2)
+whole-spec = tie.close (tie.spec Inv-loop μ-loop loop-holds add-loop perform-at-requires same-length returns moved-requires cast-used add-used loop-less loop-again same-length-2 returns-2)

@@ -1,5 +1,5 @@
 use native.Mathlib.Omega.{arith}
-use Rattle.plain.proofs.Accepted.{accepted}
+use Rattle.plain.proofs.Accepted.{given}
 use Rattle.bits.proofs.Tests.{nonzero-by}
 use mathlib.Core.Path.{sym, _∙_}
 use Rattle.plain.specs.Run.{start}
@@ -12,7 +12,7 @@ unfolding start
 returns c = simp (c .zeroed .ensures, nonzero-by (c .before .before .start-answer .ensures) (c .before .if1 .taken), c .before .before .start-answer .ensures)
 
 cast-t9 : tie.Need-cast-t9
-cast-t9 c = omega (arith, accepted _ _ _ (sym (c .before .start-answer .ensures) ∙ c .if1 .left) .sized .most)
+cast-t9 c = omega (arith, given _ _ _ (sym (c .before .start-answer .ensures) ∙ c .if1 .left) .sized .most)
 
 returns-2 : tie.Need-returns-2
 unfolding start

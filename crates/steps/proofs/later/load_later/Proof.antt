@@ -1,11 +1,13 @@
 use mathlib.Core.Path.{_∙_}
+use Rattle.steps.specs.Steps.{loadLater}
 use Rattle.steps.proofs.OwnSteps.{last-as, load-read, load-arrives}
 use borrow.Author.Needs.{needs}
 use Rattle.steps.proofs.later.load_later.Statement.{statement}
 use Rattle.steps.proofs.later.load_later.Tie as tie
 
 returns : tie.Need-returns
-returns c = c .on .ensures _ _ ∙ load-read _ _ _ _ _ _ _ _ (c .before .before .before .before .if1 .taken) (c .before .before .write-base .ensures) (c .before .loaded-value .ensures)
+unfolding loadLater
+returns c = c .on .ensures _ _ ∙ load-read _ _ _ _ _ _ _ _ (c .before .before .before .before .if1 .taken) (c .before .before .write-base .ensures) (rw (c .before .loaded-value .ensures))
 
 returns-2 : tie.Need-returns-2
 returns-2 c = last-as _ (c .last .ensures _ _) (c .before .arrive .ensures) ∙ load-arrives _ _ _ _ _ _ _ _ (c .before .before .before .if1 .left)

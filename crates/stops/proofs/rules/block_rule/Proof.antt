@@ -1,5 +1,4 @@
-use borrow.Author.Tests.{le-leb, le-ltb, lt-leb, lt-ltb}
-use Rattle.bits.proofs.Tests.{zero-by, nonzero-by}
+use borrow.Author.Tests.{eq-eqb, ne-eqb, le-leb, le-ltb, lt-leb, lt-ltb}
 use mathlib.Core.Path.{sym, _∙_}
 use Rattle.stops.specs.Stops.{ruleBroken}
 use borrow.Author.Needs.{needs}
@@ -16,11 +15,11 @@ returns-2 c = simp (c .if2 .taken, lt-ltb _ _ (c .before .if1 .left), lt-leb _ _
 
 returns-3 : tie.Need-returns-3
 unfolding ruleBroken
-returns-3 c = simp (zero-by (c .before .count .ensures) (c .if3 .taken), sym (c .before .count .ensures) ∙ c .if3 .taken, c .before .count .ensures, c .before .before .if2 .left, lt-ltb _ _ (c .before .before .before .if1 .left), lt-leb _ _ (c .before .before .before .if1 .left))
+returns-3 c = simp (eq-eqb _ _ (sym (c .before .count .ensures) ∙ c .if3 .taken), sym (c .before .count .ensures) ∙ c .if3 .taken, c .before .count .ensures, c .before .before .if2 .left, lt-ltb _ _ (c .before .before .before .if1 .left), lt-leb _ _ (c .before .before .before .if1 .left))
 
 returns-4 : tie.Need-returns-4
 unfolding ruleBroken
-returns-4 c = simp (nonzero-by (c .before .count .ensures) (c .if3 .left), c .before .count .ensures, c .before .before .if2 .left, lt-ltb _ _ (c .before .before .before .if1 .left), lt-leb _ _ (c .before .before .before .if1 .left))
+returns-4 c = simp (ne-eqb _ _ (λ z. c .if3 .left (c .before .count .ensures ∙ z)), c .before .count .ensures, c .before .before .if2 .left, lt-ltb _ _ (c .before .before .before .if1 .left), lt-leb _ _ (c .before .before .before .if1 .left))
 
 pub block-rule-spec : {M : Type 1} → statement M
 block-rule-spec = tie.close (tie.spec returns returns-2 (λ c κs. search needs) returns-3 returns-4)

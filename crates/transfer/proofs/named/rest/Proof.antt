@@ -2,7 +2,7 @@ use native.Mathlib.Omega.{arith}
 use borrow.Author.Needs.{needs}
 use lib.Pow.{pow-mono}
 use Rattle.bits.proofs.Fields.{shl-one}
-use Rattle.transfer.proofs.NamedRegisters.{lowest, lowest-le, named-rest}
+use Rattle.transfer.proofs.NamedRegisters.{lowest, lowest-le, named-rest, list-of}
 use Rattle.transfer.proofs.named.rest.Statement.{statement}
 use Rattle.transfer.proofs.named.rest.Tie as tie
 
@@ -18,7 +18,8 @@ sub-result c =
 returns : tie.Need-returns
 returns c =
     let le = lowest-le (c .args .list) in
-    rw (shl-one (lowest (c .args .list)) (omega (arith, le))) (named-rest (c .args .list), omega arith)
+    let names = named-rest (c .args .list) in
+    rw (shl-one (lowest (c .args .list)) (omega (arith, le))) (names, list-of _ _ (omega arith) names)
 
 pub rest-spec : {M : Type 1} → statement M
 rest-spec = tie.close (tie.spec (λ c. search needs) shl-result sub-result returns)

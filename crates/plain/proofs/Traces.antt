@@ -1,0 +1,113 @@
+-- The trace is what the machine's own runs come to.
+-- Assumes nothing.
+use Prim.Native.Nat.{ℕ, zero, suc, _+_, _≤_, _<_}
+use mathlib.Core.Path.{_≡_, refl, sym, ap, subst, _∙_}
+use mathlib.Core.Logic.{_≢_, ⊎-elim}
+use native.Mathlib.Nat.{add-zero, eq-or-lt-of-le, le-of-suc-le-suc}
+use native.Mathlib.Omega.{arith}
+use lib.ListN.{length}
+use Rattle.plain.specs.Machine.{Machine, performedAt, step}
+use Rattle.plain.specs.Numbers.{refusal}
+use Rattle.plain.specs.Run.{Ran, ran, oneMore, runFrom, repeated, refused, run}
+use Rattle.plain.proofs.Loop.{met}
+use Rattle.plain.specs.Trace.{trace, stopMet, Does, Halted, Traced}
+
+-- a step, and then k more
+trace-front : (m : Machine) (k : ℕ) → trace (step m) k ≡ trace m (suc k)
+unfolding trace
+trace-front m zero = refl
+trace-front m (suc k) = ap step (trace-front m k)
+
+onward : (m : Machine) (j k : ℕ) → trace (trace m j) k ≡ trace m (j + k)
+unfolding trace
+onward m j zero = ap (trace m) (sym (add-zero j))
+onward m j (suc k) =
+    let e : suc (j + k) ≡ j + suc k = omega arith in
+    ap step (onward m j k) ∙ ap (trace m) e
+
+-- the stop that a step leaves is the one met
+step-stop : (m : Machine) → step m .plain .stop ≡ stopMet m
+unfolding step stopMet
+step-stop m = refl
+
+does-first : (m : Machine) (k : ℕ) → step m .plain .stop ≡ 0 → Does (step m) k → Does m (suc k)
+unfolding trace
+does-first m k e d zero h = sym (step-stop m) ∙ e
+does-first m k e d (suc j) h = ap stopMet (sym (trace-front m j)) ∙ d j (omega arith)
+
+-- ---- the loop
+
+-- spent, or stopped after k of n
+abbrev Spent : ℕ → Machine → Ran → Type 0
+Spent n m r = (r ≡ ran 0 n (trace m n)) × Does m n
+
+record Found (n : ℕ) (m : Machine) (r : Ran) : Type 0 where
+  less : r .done < n
+  does : Does m (r .done)
+  stop : stopMet (trace m (r .done)) ≡ r .answer
+  leaves : r .machine ≡ trace m (suc (r .done))
+
+from-spent : (n : ℕ) (m : Machine) → runFrom n m .answer ≡ 0 → Spent n m (runFrom n m)
+unfolding runFrom trace
+from-spent zero m e = (refl, λ j h. absurd (omega arith))
+from-spent (suc n) m e = go (step m .plain .stop) refl (from-spent n (step m)) e
+  where
+    go : (q : ℕ) → step m .plain .stop ≡ q → (runFrom n (step m) .answer ≡ 0 → Spent n (step m) (runFrom n (step m)))
+        → met q n (step m) .answer ≡ 0
+        → Spent (suc n) m (met q n (step m))
+    go zero z ih e = (ap oneMore (ih e .0) ∙ ap (ran 0 (suc n)) (trace-front m n), does-first m n z (ih e .1))
+    go (suc q) z ih e = absurd (omega arith)
+
+from-stopped : (n : ℕ) (m : Machine) → m .plain .stop ≡ 0 → runFrom n m .machine .plain .stop ≢ 0 → Found n m (runFrom n m)
+unfolding runFrom trace
+from-stopped zero m z e = absurd (e z)
+from-stopped (suc n) m z e = go (step m .plain .stop) refl (from-stopped n (step m)) e
+  where
+    go : (q : ℕ) → step m .plain .stop ≡ q
+        → (step m .plain .stop ≡ 0 → runFrom n (step m) .machine .plain .stop ≢ 0 → Found n (step m) (runFrom n (step m)))
+        → met q n (step m) .machine .plain .stop ≢ 0
+        → Found (suc n) m (met q n (step m))
+    go zero z ih e =
+        let f = ih z e in
+        let k = runFrom n (step m) .done in
+        record {
+          less = omega (arith, f .less);
+          does = does-first m k z (f .does);
+          stop = ap stopMet (sym (trace-front m k)) ∙ f .stop;
+          leaves = f .leaves ∙ trace-front m (suc k);
+        }
+    go (suc q) z ih e =
+        record { less = omega arith; does = λ j h. absurd (omega arith); stop = sym (step-stop m) ∙ z; leaves = refl }
+
+-- ---- the run
+
+spent : (n : ℕ) (m : Machine) → run n m .answer ≡ 0 → (run n m ≡ ran 0 n (trace m n)) × Does m n
+unfolding run
+spent n m = by-refusal (refusal (m .plain) (length (m .memory)) n)
+  where
+    by-stop : (q : ℕ) → repeated q n m .answer ≡ 0 → Spent n m (repeated q n m)
+    by-stop zero e = from-spent n m e
+    by-stop (suc q) e = absurd (omega arith)
+
+    by-refusal : (q : ℕ) → refused q n m .answer ≡ 0 → Spent n m (refused q n m)
+    by-refusal zero e = by-stop (m .plain .stop) e
+    by-refusal (suc q) e = absurd (omega arith)
+
+halted : (n : ℕ) (m : Machine) → m .plain .stop ≡ 0 → run n m .machine .plain .stop ≢ 0 → Found n m (run n m)
+unfolding run
+halted n m z = by-refusal (refusal (m .plain) (length (m .memory)) n)
+  where
+    by-stop : (q : ℕ) → repeated q n m .machine .plain .stop ≢ 0 → Found n m (repeated q n m)
+    by-stop zero e = from-stopped n m z e
+    by-stop (suc q) e = absurd (e z)
+
+    by-refusal : (q : ℕ) → refused q n m .machine .plain .stop ≢ 0 → Found n m (refused q n m)
+    by-refusal zero e = by-stop (m .plain .stop) e
+    by-refusal (suc q) e = absurd (e z)
+
+pub traced : Traced
+traced = record {
+  spent = spent;
+  stopped = λ n m z e. let f = halted n m z e in record { less = f .less; does = f .does; stop = f .stop; leaves = f .leaves };
+  onward = onward;
+}
