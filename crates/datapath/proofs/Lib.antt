@@ -9,3 +9,5 @@ pub mod R15
 pub mod Rotations
 pub mod Floors
 pub mod Shifts
+pub mod ShiftTable
+pub mod Operations

@@ -6,3 +6,5 @@ pub mod Signed
 pub mod Overflow
 pub mod Shifts
 pub mod R15
+pub mod ShiftTable
+pub mod Operations

@@ -1,2 +1,3 @@
 pub mod Memory
 pub mod Lanes
+pub mod Fetches

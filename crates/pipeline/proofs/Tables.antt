@@ -18,11 +18,11 @@ use Rattle.stops.specs.Stops as stops
 use Rattle.plain.specs.Numbers as plain
 use Rattle.steps.specs.Steps as steps
 use Rattle.pipeline.specs.Cycle.{ownOf, cycle}
-use Rattle.pipeline.specs.Numbers.{badWordStep, bad}
+use Rattle.pipeline.specs.Numbers.{badWordStep, bad, refusal}
 use Rattle.pipeline.specs.Run.{start}
 use Rattle.pipeline.specs.Term3.{fresh}
 use Rattle.pipeline.specs.Tables as table
-use Rattle.pipeline.specs.Tables.{BadRecords, Tables}
+use Rattle.pipeline.specs.Tables.{BadRecords, RefusalOrder, Tables}
 
 bad-records : BadRecords
 unfolding bits.field bits.bit reader.readOf condition.passes block.namedFrom block.named effect.ownSteps stops.ruleBroken badWordStep bad
@@ -52,6 +52,10 @@ bad-records = record {
   block-done = (refl, refl);
 }
 
+refusal-order : RefusalOrder
+unfolding bad refusal
+refusal-order = record { budget = refl; far = refl; order = refl }
+
 pub tables : Tables
 unfolding table.bytes table.changes table.rows bits.field bits.bit reader.readOf condition.passes shifter.rotated shifter.lsl shifter.shift shifter.byRegister alu.operate alu.flagsOf counter.ahead counter.counter counter.r15Word memory.holdsWord memory.readWord memory.writeWord memory.readByte memory.wordAt registers.register registers.put registers.arrives processing.operandOf processing.computedOf processing.flagsAfter processing.stored processing.processed single.offsetOf single.changedBase single.addressOf single.withBase single.loadedValue single.storedValue single.storedTo block.namedFrom block.named block.changedBase block.lowestAddress block.withBase branch.branched plain.startAnswer steps.behind steps.first steps.loadLater steps.storeLater steps.loadStep steps.blockLoadLater steps.storeStep steps.blockStoreLater steps.later ownOf cycle start fresh
-tables = record { cycles = refl; bad = bad-records }
+tables = record { cycles = refl; bad = bad-records; refusals = refusal-order }

@@ -1,4 +1,4 @@
--- Two tables of the core, one theorem: what it holds after each cycle of each kind of instruction, and which records are bad (11).
+-- Tables of the core, one theorem: what it holds after each cycle of each kind of instruction, which records are bad (11), and what a run refuses with first.
 use Prim.Native.Nat.{ℕ, zero, suc, _/_, _%_}
 use mathlib.Core.Path.{_≡_}
 use mathlib.Core.Bool.{true, false}
@@ -12,9 +12,9 @@ use Rattle.steps.specs.declared.Phase.{Phase}
 use Rattle.steps.specs.declared.Phase.the-variants.{Step1, Refill1, Refill2, Later}
 use Rattle.steps.specs.Steps.{Latches, latches, idle}
 use Rattle.pipeline.specs.declared.Control.{Control}
-use Rattle.pipeline.specs.Machine.{Machine, Pipe, pipe, pipeOf, latchesOf, control}
+use Rattle.pipeline.specs.Machine.{Machine, machine, Pipe, pipe, pipeOf, latchesOf, control}
 use Rattle.pipeline.specs.Cycle.{cycle}
-use Rattle.pipeline.specs.Numbers.{bad}
+use Rattle.pipeline.specs.Numbers.{bad, refusal}
 use Rattle.pipeline.specs.Term3.{fresh}
 
 -- ---- after each cycle
@@ -207,7 +207,27 @@ pub record BadRecords : Type 0 where
   pub last-outside : Tells (λ a. under blockStore (Later 2) a 0) (16 ∷ []) (12 ∷ [])
   pub block-done : Tells (λ a. under blockLoad (Later 3) a 0) [] (16 ∷ [])
 
+-- ---- refusals of a run
+
+-- lent so many bytes, with a budget
+abbrev pub refused : ℕ → ℕ → Control → ℕ
+refused lent budget c = refusal lent budget (machine registers c [])
+
+-- five cycles before 2^40: flags and stop
+abbrev pub late : ℕ → ℕ → Control
+late f stop = standing 16 8 f 0xFFFFFFFFFB 1 stop
+
+pub record RefusalOrder : Type 0 where
+  -- 3 budget above 1,000,000
+  pub budget : map (λ n. refused 16 n (standing 16 8 0 9 1 0)) (0 ∷ 1000000 ∷ 1000001 ∷ []) ≡ 0 ∷ 0 ∷ 3 ∷ []
+  -- 13 cycles plus budget above 2^40
+  pub far : map (λ n. refused 16 n (late 0 0)) (0 ∷ 5 ∷ 6 ∷ []) ≡ 0 ∷ 0 ∷ 13 ∷ []
+  -- 12, 11, 3, 13, each before those after it; a stop held hides none of them
+  pub order : refused 20 1000001 (late 16 0) ∷ refused 16 1000001 (late 16 0) ∷ refused 16 1000001 (late 0 22) ∷ refused 16 6 (late 0 22) ∷ []
+      ≡ 12 ∷ 11 ∷ 3 ∷ 13 ∷ []
+
 pub record Tables : Type 0 where
   -- the address latch holds the next address to be moved; a latch that no step left needs is 0
   pub cycles : rows 32 registers started ≡ table
   pub bad : BadRecords
+  pub refusals : RefusalOrder

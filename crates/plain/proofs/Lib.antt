@@ -2,3 +2,4 @@ pub mod Accepted
 pub mod Loop
 pub mod Entry
 pub mod Traces
+pub mod Refusals

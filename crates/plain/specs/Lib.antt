@@ -4,3 +4,4 @@ pub mod Numbers
 pub mod Run
 pub mod Starts
 pub mod Trace
+pub mod Refusals

@@ -1,1 +1,2 @@
 pub mod ResultFlags
+pub mod R15Reads

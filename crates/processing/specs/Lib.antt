@@ -1,2 +1,3 @@
 pub mod Processing
 pub mod ResultFlags
+pub mod R15Reads

@@ -3,3 +3,4 @@ pub mod Results
 pub mod Marked
 pub mod BranchOffsets
 pub mod OwnBase
+pub mod Stopped

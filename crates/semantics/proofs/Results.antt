@@ -30,7 +30,7 @@ use Rattle.semantics.specs.declared.Performed.{Performed}
 use Rattle.semantics.specs.Branch.{branched}
 use Rattle.semantics.specs.Effect.{effect, Left, baseThenRegister, baseThenRegisters, loadEffect, storeEffect, blockLoadEffect, blockStoreEffect, effectOf, ownSteps, refills, nextAddress}
 use Rattle.stops.specs.Stops.{stopOf, ruleBroken, movedStop, movedBy, storedBy, stopFor}
-use Rattle.semantics.specs.Perform.{Result, resultOf, performed, done, effectFor, stepsFor, performs}
+use Rattle.semantics.specs.Perform.{Result, resultOf, performed, stoppedAt, done, effectFor, stepsFor, performs}
 use Rattle.semantics.specs.Executed.{executed}
 
 and-none : (s : ℕ) → s ≡ s + 0
@@ -85,7 +85,7 @@ module _ (i : Block) (g : List ℕ) (f a : ℕ) (mem : List ℕ) {p : Performed}
 -- ---- a passing condition: stopped, or done
 
 module _ (i : Instruction) (g : List ℕ) (f a : ℕ) (mem : List ℕ) (board : Board) {s : ℕ} (e : s ≡ stopOf i g f a board) where
-  pub executed-stop : {p : Performed} → (s ≡ 0 → ⊥) → p ≡ performed s f a 0 → resultOf p g mem ≡ executed i g f a mem board
+  pub executed-stop : {p : Performed} → (s ≡ 0 → ⊥) → p ≡ stoppedAt s f a → resultOf p g mem ≡ executed i g f a mem board
   unfolding executed
   executed-stop n q = rw (nonzero-by e n, q, e)
 
@@ -126,7 +126,7 @@ unfolding executed stopOf ruleBroken movedStop movedBy storedBy ownSteps effectO
 branch-done i g f a mem board q o = finished a 1 mem q o
 
 pub other-stop : (w : ℕ) (g : List ℕ) (f a : ℕ) (mem : List ℕ) (board : Board) {p : Performed}
-    → p ≡ performed 22 f a 0 → resultOf p g mem ≡ executed (Instruction.Other w) g f a mem board
+    → p ≡ stoppedAt 22 f a → resultOf p g mem ≡ executed (Instruction.Other w) g f a mem board
 unfolding executed stopOf
 other-stop w g f a mem board q = ap (λ (x : Performed). resultOf x g mem) q
 
@@ -154,6 +154,6 @@ pub fetched-as : {x y : Fetched} (g : List ℕ) (f a : ℕ) (mem : List ℕ) (bo
 fetched-as g f a mem board e q = q ∙ ap (λ x. performs x g f a mem board) (sym e)
 
 pub blank-stop : (g : List ℕ) (f a : ℕ) (mem : List ℕ) (board : Board) {p : Performed}
-    → p ≡ performed 21 f a 0 → resultOf p g mem ≡ performs Blank g f a mem board
+    → p ≡ stoppedAt 21 f a → resultOf p g mem ≡ performs Blank g f a mem board
 unfolding performs stopFor
 blank-stop g f a mem board q = ap (λ (x : Performed). resultOf x g mem) q

@@ -5,3 +5,4 @@ pub mod Executed
 pub mod Marked
 pub mod BranchOffsets
 pub mod OwnBase
+pub mod Stopped

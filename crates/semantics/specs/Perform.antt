@@ -43,8 +43,11 @@ done a steps e =
     resultOf (performed 0 (e .out .flags) (nextAddress a (e .out .goes)) (steps + refills (e .out .goes))) (e .out .registers) (e .memory)
 
 -- a stop changes only the stop
+abbrev pub stoppedAt : ℕ → ℕ → ℕ → Performed
+stoppedAt stop f a = performed stop f a 0
+
 abbrev pub resultFor : ℕ → List ℕ → ℕ → ℕ → List ℕ → ℕ → Effect → Result
-resultFor stop g f a mem steps e = pick (eqb stop 0) (done a steps e) (resultOf (performed stop f a 0) g mem)
+resultFor stop g f a mem steps e = pick (eqb stop 0) (done a steps e) (resultOf (stoppedAt stop f a) g mem)
 
 unfoldable pub performs : Fetched → List ℕ → ℕ → ℕ → List ℕ → Board → Result
 performs x g f a mem board = resultFor (stopFor x g f a board) g f a mem (stepsFor x g f) (effectFor x g f a mem)

@@ -11,7 +11,7 @@ ghost use Rattle.memory.specs.declared.Fetched.{Fetched};
 ghost use Rattle.memory.specs.Memory.{wordAt};
 ghost use Rattle.registers.specs.Registers.{arrives};
 ghost use Rattle.semantics.specs.Effect.{nextAddress, refills, Left, baseThenRegister, baseThenRegisters, loadEffect, storeEffect, blockLoadEffect, blockStoreEffect};
-ghost use Rattle.semantics.specs.Perform.{resultOf, performed, done, performs};
+ghost use Rattle.semantics.specs.Perform.{resultOf, performed, stoppedAt, done, performs};
 ghost use Rattle.semantics.specs.Executed.{executed};
 use crate::Performed;
 use crate::branch::branch;
@@ -72,7 +72,7 @@ fn done(a: u32, steps: u32, t: Turn) -> Performed
 
 // A stop changes only the stop.
 fn stopped(stop: u32, flags: u32, a: u32) -> Performed
-    ensures { λ r. ⌜ r ≡ performed stop flags a 0 ⌝ }
+    ensures { λ r. ⌜ r ≡ stoppedAt stop flags a ⌝ }
 {
     Performed {
         stop,

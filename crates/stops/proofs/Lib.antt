@@ -2,3 +2,4 @@ pub mod Spans
 pub mod Marked
 pub mod BrokenRules
 pub mod StopOrder
+pub mod Hidden

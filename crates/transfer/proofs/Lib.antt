@@ -8,3 +8,4 @@ pub mod Places
 pub mod Arrivals
 pub mod Blocks
 pub mod Indexing
+pub mod SingleData
