@@ -19,7 +19,7 @@ use Rattle.plain.specs.Run as plain
 use Rattle.slot.specs.CoreArray as coreArray
 use Rattle.slot.specs.PlainArray as plainArray
 use Rattle.slot.specs.RecordArray.{recordOf, standsForRecord}
-use Rattle.slot.specs.Calls.{Called, started, called, isRefusal, refused, unlessRefused, coreBegun, coreStart, coreCalled, coreMachine, otherLength, arrayRefusal, refusalOf, coreRun, plainBegun, plainStart, plainCalled, plainRun, answer, wordOf}
+use Rattle.slot.specs.Calls.{Called, started, called, isRefusal, refused, unlessRefused, coreBegun, coreStart, coreCalled, coreMachine, otherLength, lengthIn, arrayRefusal, refusalOf, coreRun, plainBegun, plainStart, plainCalled, plainRun, answer, wordOf}
 use Rattle.slot.proofs.Refusing.{core-kept, plain-kept}
 
 pub core-started : (g : List ℕ) (f e : ℕ) (mem : List ℕ) {a : ℕ} {c : Core} {p : List ℕ}
@@ -53,10 +53,10 @@ module _ (words mem : List ℕ) (n : ℕ) where
   array-accepted e = rw e
 
   -- from what was tested of the array
-  module _ {d t : Bool} {r : ℕ} (h : d ≡ otherLength (length mem) (coreArray.at words 32)) (k : t ≡ coreArray.standsForCore words) (i : r ≡ arrayRefusal d t) where
+  module _ {d t : Bool} {r : ℕ} (h : d ≡ otherLength (length mem) (lengthIn words)) (k : t ≡ coreArray.standsForCore words) (i : r ≡ arrayRefusal d t) where
     refusal-is : r ≡ refusalOf words mem
     refusal-is =
-        i ∙ (ap (λ (b : Bool). arrayRefusal b t) h ∙ ap (λ (b : Bool). arrayRefusal (otherLength (length mem) (coreArray.at words 32)) b) k)
+        i ∙ (ap (λ (b : Bool). arrayRefusal b t) h ∙ ap (λ (b : Bool). arrayRefusal (otherLength (length mem) (lengthIn words)) b) k)
 
     pub core-not-run : (r ≡ 0 → ⊥) → refused r words mem ≡ coreRun words mem n
     core-not-run = array-refused refusal-is

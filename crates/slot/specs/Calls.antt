@@ -67,10 +67,14 @@ otherLength lent length = not (eqb lent length)
 abbrev pub arrayRefusal : Bool → Bool → ℕ
 arrayRefusal differs stands = pick differs 12 (pick (not stands) 11 0)
 
-abbrev pub refusalOf : List ℕ → List ℕ → ℕ
-refusalOf words mem = arrayRefusal (otherLength (length mem) (coreArray.at words 32)) (coreArray.standsForCore words)
+-- the length of the memory that the core was started on
+abbrev pub lengthIn : List ℕ → ℕ
+lengthIn words = coreArray.at words 32
 
--- array, memory, budget; word 32 is the length of the memory that the core was started on
+abbrev pub refusalOf : List ℕ → List ℕ → ℕ
+refusalOf words mem = arrayRefusal (otherLength (length mem) (lengthIn words)) (coreArray.standsForCore words)
+
+-- array, memory, budget
 unfoldable pub coreRun : List ℕ → List ℕ → ℕ → Called
 coreRun words mem budget =
     pick (eqb (refusalOf words mem) 0)
