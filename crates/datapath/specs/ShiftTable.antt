@@ -30,7 +30,7 @@ pub record ShiftTable : Type 0 where
   pub ror : (c : Bool) → inWord 3 c (0 ∷ 1 ∷ 31 ∷ []) ≡ shifted (0x40000001 + num c * 2 ^ 31) true ∷ shifted 0xC0000001 true ∷ shifted 7 false ∷ []
   -- by register the amount is Rs's low byte: 0 keeps value and C
   pub kept : (kind : ℕ) (c : Bool) → by kind c (0 ∷ 0x100 ∷ 0xFFFFFF00 ∷ []) ≡ shifted before c ∷ shifted before c ∷ shifted before c ∷ []
-  -- by 1 as in the word, with the bits above the low byte of Rs clear or set
+  -- Rs=101 moves by 1, as an amount in the word does
   pub once : (c : Bool) → map (λ kind. byRegister kind before 0x101 c) (0 ∷ 1 ∷ 2 ∷ 3 ∷ [])
       ≡ shifted 6 true ∷ shifted 0x40000001 true ∷ shifted 0xC0000001 true ∷ shifted 0xC0000001 true ∷ []
   -- LSL and LSR by 32 give 0, with carry bit 0 and bit 31; above 32 both give 0, carry 0

@@ -57,5 +57,5 @@ unfolding bad refusal
 refusal-order = record { budget = refl; far = refl; order = refl }
 
 pub tables : Tables
-unfolding table.bytes table.changes table.rows bits.field bits.bit reader.readOf condition.passes shifter.rotated shifter.lsl shifter.shift shifter.byRegister alu.operate alu.flagsOf counter.ahead counter.counter counter.r15Word memory.holdsWord memory.readWord memory.writeWord memory.readByte memory.wordAt registers.register registers.put registers.arrives processing.operandOf processing.computedOf processing.flagsAfter processing.stored processing.processed single.offsetOf single.changedBase single.addressOf single.withBase single.loadedValue single.storedValue single.storedTo block.namedFrom block.named block.changedBase block.lowestAddress block.withBase branch.branched plain.startAnswer steps.behind steps.first steps.loadLater steps.storeLater steps.loadStep steps.blockLoadLater steps.storeStep steps.blockStoreLater steps.later ownOf cycle start fresh
+unfolding table.changes table.rows bits.field bits.bit reader.readOf condition.passes shifter.rotated shifter.lsl shifter.shift shifter.byRegister alu.operate alu.flagsOf counter.ahead counter.counter counter.r15Word memory.holdsWord memory.readWord memory.writeWord memory.readByte memory.wordAt registers.register registers.put registers.arrives processing.operandOf processing.computedOf processing.flagsAfter processing.stored processing.processed single.offsetOf single.changedBase single.addressOf single.withBase single.loadedValue single.storedValue single.storedTo block.namedFrom block.named block.changedBase block.lowestAddress block.withBase branch.branched plain.startAnswer steps.behind steps.first steps.loadLater steps.storeLater steps.loadStep steps.blockLoadLater steps.storeStep steps.blockStoreLater steps.later ownOf cycle start fresh
 tables = record { cycles = refl; bad = bad-records; refusals = refusal-order }

@@ -1,5 +1,5 @@
 -- Tables of the core, one theorem: what it holds after each cycle of each kind of instruction, which records are bad (11), and what a run refuses with first.
-use Prim.Native.Nat.{ℕ, zero, suc, _/_, _%_}
+use Prim.Native.Nat.{ℕ, zero, suc}
 use mathlib.Core.Path.{_≡_}
 use mathlib.Core.Bool.{true, false}
 use mathlib.Core.List.{List, [], _∷_, map}
@@ -11,6 +11,7 @@ use Rattle.memory.specs.declared.Fetched.the-variants.{Word, Blank}
 use Rattle.steps.specs.declared.Phase.{Phase}
 use Rattle.steps.specs.declared.Phase.the-variants.{Step1, Refill1, Refill2, Later}
 use Rattle.steps.specs.Steps.{Latches, latches, idle}
+use Rattle.steps.specs.LatchTable.{bytes}
 use Rattle.pipeline.specs.declared.Control.{Control}
 use Rattle.pipeline.specs.Machine.{Machine, machine, Pipe, pipe, pipeOf, latchesOf, control}
 use Rattle.pipeline.specs.Cycle.{cycle}
@@ -18,11 +19,6 @@ use Rattle.pipeline.specs.Numbers.{bad, refusal}
 use Rattle.pipeline.specs.Term3.{fresh}
 
 -- ---- after each cycle
-
--- words as bytes, the lowest first
-unfoldable pub bytes : List ℕ → List ℕ
-bytes [] = []
-bytes (w ∷ ws) = w % 256 ∷ w / 256 % 256 ∷ w / 65536 % 256 ∷ w / 16777216 ∷ bytes ws
 
 -- from 0, then words that are only fetched, then from 40 words that are loaded or stored over
 abbrev pub words : List ℕ

@@ -15,7 +15,7 @@ at20 g f board word = stopFor (Word word) g f 0x20 board
 abbrev pub AllMeet : ℕ → List ℕ → ℕ → Board → List ℕ → Type 0
 AllMeet q g f board words = map (at20 g f board) words ≡ map (λ word. q) words
 
--- a word of each that meets 22, 23 and 24 or 25 in some state, with condition EQ, and the same with condition never:
+-- words that meet 22, 23, 24, 25 and none in some state, with condition EQ, and the same with condition never:
 -- SWI; MOV R0, R1, LSL R15; LDR R0, [R1]; STMIA R1, {R0, R2}; B
 abbrev pub equal : List ℕ
 equal = 0x0F000000 ∷ 0x01A00F11 ∷ 0x05910000 ∷ 0x08810005 ∷ 0x0A000000 ∷ []
