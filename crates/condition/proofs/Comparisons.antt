@@ -3,9 +3,10 @@
 use mathlib.Core.Path.{_≡_, refl, sym, ap, _∙_}
 use mathlib.Core.Bool.{Bool, true, false, not, _&&_}
 use mathlib.Core.Logic.{_≢_}
-use Prim.Native.Nat.{ℕ, _+_, _*_, _/_, _%_, _^_, _≤_, _<_}
+use Prim.Native.Nat.{ℕ, _+_, _*_, _%_, _^_, _≤_, _<_}
 use native.Mathlib.Omega.{arith}
-use lib.Dec.{lit<, ltb, leb, eqb}
+use lib.Dec.{T, lit<, ltb, leb, eqb}
+use lib.ListN.{getD}
 use lib.IntN.{pos}
 use lib.Signed.{leZ, ltZ}
 use borrow.Author.Tests.{lt-ltb, le-ltb, leb-true, leb-false, eqb-true, eqb-false}
@@ -19,24 +20,17 @@ use Rattle.datapath.specs.Signed.{signedValue}
 use Rattle.datapath.proofs.Flags.{num-le}
 use Rattle.datapath.proofs.Integers.{not-leZ, not-ltZ}
 use Rattle.datapath.proofs.Orders.{compared-carry, compared-zero, compared-signed, signed-below, signed-negative, overflow}
-use Rattle.condition.specs.Condition.{evenPasses, passes}
+use Rattle.condition.specs.Condition.{conditions, passes}
+use Rattle.condition.specs.Table.{all}
 use Rattle.condition.specs.Comparisons.{compared, Order, Comparisons}
+use Rattle.condition.proofs.Table.{all-at, alike, low-flags}
 
 -- ---- a condition by the flags of a result, each at its bit
 
-same-true : (t : Bool) → same true t ≡ t
-same-true true = refl
-same-true false = refl
-
-negated : (t : Bool) → same false t ≡ not (same true t)
-negated true = refl
-negated false = refl
-
--- the even conditions
-by-flags : (half : ℕ) (r : Computed) → half < 8
-    → passes (2 * half) (flagsOf r) ≡ evenPasses half (bit (r .value) 31) (eqb (r .value) 0) (r .carry) (r .overflow)
+by-flags : (k : ℕ) (r : Computed)
+    → passes k (flagsOf r) ≡ getD (conditions (bit (r .value) 31) (eqb (r .value) 0) (r .carry) (r .overflow)) (k % 16) false
 unfolding passes field flagsOf
-by-flags half r l =
+by-flags k r =
     let n = bit (r .value) 31 in
     let z = eqb (r .value) 0 in
     let c = r .carry in
@@ -46,20 +40,21 @@ by-flags half r l =
     let lc : num c ≤ 1 = num-le c in
     let lv : num v ≤ 1 = num-le v in
     let f = 8 * num n + 4 * num z + 2 * num c + num v in
-    let e : 2 * half % 2 ≡ 0 = omega arith in
-    let h : 2 * half % 16 / 2 ≡ half = omega arith in
-    rw (e, h, bit-of f 3 n (omega arith), bit-of f 2 z (omega arith), bit-of f 1 c (omega arith), bit-of f 0 v (omega arith))
-    (same-true (evenPasses half n z c v))
+    rw (bit-of f 3 n (omega arith), bit-of f 2 z (omega arith), bit-of f 1 c (omega arith), bit-of f 0 v (omega arith))
 
--- each odd one negates the one before
-odd-negates : (half f : ℕ) → half < 8 → passes (2 * half + 1) f ≡ not (passes (2 * half) f)
-unfolding passes
-odd-negates half f l =
-    let d : (2 * half + 1) % 2 ≡ 1 = omega arith in
-    let e : 2 * half % 2 ≡ 0 = omega arith in
-    let h : 2 * half % 16 / 2 ≡ half = omega arith in
-    let k : (2 * half + 1) % 16 / 2 ≡ half = omega arith in
-    rw (d, e, h, k) (negated (evenPasses half (bit f 3) (bit f 2) (bit f 1) (bit f 0)))
+-- ---- each odd one up to 13 negates the one before: one computed test, at each value of the flags
+
+abbrev negates : ℕ → Bool
+negates k = all (λ f. same (passes (2 * k + 1) f) (not (passes (2 * k) f))) 16
+
+negated : T (all negates 7)
+unfolding passes bit field
+negated = tt
+
+odd-negates : (k f : ℕ) → k < 7 → passes (2 * k + 1) f ≡ not (passes (2 * k) f)
+odd-negates k f h =
+    rw (← (low-flags (2 * k + 1) f), ← (low-flags (2 * k) f))
+    (alike (passes (2 * k + 1)) (λ f. not (passes (2 * k) f)) (all-at negates 7 negated k h) f)
 
 -- ---- the order
 
@@ -80,19 +75,19 @@ module _ (a b : ℕ) (ha : a < 2 ^ 32) (hb : b < 2 ^ 32) where
   d = difference a b true
 
   equal : passes 0 (compared a b) ≡ eqb a b
-  equal = by-flags 0 d (lit< tt) ∙ compared-zero a b ha hb
+  equal = by-flags 0 d ∙ compared-zero a b ha hb
 
   carried : passes 2 (compared a b) ≡ leb b a
-  carried = by-flags 1 d (lit< tt) ∙ compared-carry a b ha hb
+  carried = by-flags 2 d ∙ compared-carry a b ha hb
 
   higher : passes 8 (compared a b) ≡ ltb b a
-  higher = by-flags 4 d (lit< tt) ∙ rw (compared-carry a b ha hb, compared-zero a b ha hb) (strictly a b)
+  higher = by-flags 8 d ∙ rw (compared-carry a b ha hb, compared-zero a b ha hb) (strictly a b)
 
   at-least : passes 10 (compared a b) ≡ leZ (signedValue b) (signedValue a)
-  at-least = by-flags 5 d (lit< tt) ∙ compared-signed a b ha hb
+  at-least = by-flags 10 d ∙ compared-signed a b ha hb
 
   greater : passes 12 (compared a b) ≡ ltZ (signedValue b) (signedValue a)
-  greater = by-flags 6 d (lit< tt) ∙ rw (compared-signed a b ha hb, compared-zero a b ha hb) (signed-below a b ha hb)
+  greater = by-flags 12 d ∙ rw (compared-signed a b ha hb, compared-zero a b ha hb) (signed-below a b ha hb)
 
   ordered : Order a b
   ordered =
@@ -113,7 +108,7 @@ module _ (a b : ℕ) (ha : a < 2 ^ 32) (hb : b < 2 ^ 32) where
 -- ---- the theorem
 
 minus : (r : Computed) → r .value < 2 ^ 32 → passes 4 (flagsOf r) ≡ ltZ (signedValue (r .value)) (pos 0)
-minus r h = by-flags 2 r (lit< tt) ∙ signed-negative (r .value) h
+minus r h = by-flags 4 r ∙ signed-negative (r .value) h
 
 pub comparisons : Comparisons
 unfolding passes
@@ -121,9 +116,9 @@ comparisons = record {
   order = ordered;
   mi-passes = minus;
   pl-passes = λ r h. odd-negates 2 (flagsOf r) (lit< tt) ∙ ap not (minus r h) ∙ not-ltZ (pos 0) (signedValue (r .value));
-  vs-sum = λ a b c ha hb. by-flags 3 (sum a b c) (lit< tt) ∙ overflow .of-sum a b c ha hb;
-  vs-difference = λ a b c ha hb. by-flags 3 (difference a b c) (lit< tt) ∙ overflow .of-difference a b c ha hb;
-  vc-passes = λ f. odd-negates 3 f (lit< tt);
+  vs-sum = λ a b c ha hb. by-flags 6 (sum a b c) ∙ overflow .of-sum a b c ha hb;
+  vs-difference = λ a b c ha hb. by-flags 6 (difference a b c) ∙ overflow .of-difference a b c ha hb;
+  odd-negates = odd-negates;
   always-passes = λ f. refl;
   never-passes = λ f. refl;
 }

@@ -1,5 +1,5 @@
 -- The conditions by what they are for: after a comparison they tell the order of the two words. The definitions say them by flags.
-use Prim.Native.Nat.{ℕ, _^_, _<_}
+use Prim.Native.Nat.{ℕ, _+_, _*_, _^_, _<_}
 use mathlib.Core.Path.{_≡_}
 use mathlib.Core.Bool.{Bool, true, false, not}
 use lib.Dec.{ltb, leb, eqb}
@@ -37,12 +37,13 @@ pub record Comparisons : Type 0 where
   -- MI, PL: the signed result is below 0, or not
   pub mi-passes : (r : Computed) → r .value < 2 ^ 32 → passes 4 (flagsOf r) ≡ ltZ (signedValue (r .value)) (pos 0)
   pub pl-passes : (r : Computed) → r .value < 2 ^ 32 → passes 5 (flagsOf r) ≡ leZ (pos 0) (signedValue (r .value))
-  -- VS: the signed sum or difference is out of range; VC: it is not
+  -- VS: the signed sum or difference is out of range; VC, the odd one after it: it is not
   pub vs-sum : (a b : ℕ) (c : Bool) → a < 2 ^ 32 → b < 2 ^ 32
       → passes 6 (flagsOf (sum a b c)) ≡ not (inRange (signedValue a +ℤ signedValue b +ℤ pos (num c)))
   pub vs-difference : (a b : ℕ) (c : Bool) → a < 2 ^ 32 → b < 2 ^ 32
       → passes 6 (flagsOf (difference a b c)) ≡ not (inRange (signedValue a -ℤ signedValue b -ℤ pos (num (not c))))
-  pub vc-passes : (f : ℕ) → passes 7 f ≡ not (passes 6 f)
+  -- each odd one up to 13 negates the one before
+  pub odd-negates : (k f : ℕ) → k < 7 → passes (2 * k + 1) f ≡ not (passes (2 * k) f)
   -- always, never
   pub always-passes : (f : ℕ) → passes 14 f ≡ true
   pub never-passes : (f : ℕ) → passes 15 f ≡ false

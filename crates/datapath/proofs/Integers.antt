@@ -1,7 +1,7 @@
 -- Integers as differences of numbers, which carries their sums and their order to numbers.
 -- Assumes nothing.
-use mathlib.Core.Path.{_≡_, refl}
-use mathlib.Core.Bool.{Bool, true, false, not, cond}
+use mathlib.Core.Path.{_≡_, refl, sym, ap, _∙_}
+use mathlib.Core.Bool.{Bool, true, false, not, cond, Bool·not-not}
 use Prim.Native.Nat.{ℕ, zero, suc, _+_, _-_, _%_, _^_, _≤_, _<_}
 use native.Mathlib.Omega.{arith}
 use lib.Dec.{ltb}
@@ -9,7 +9,7 @@ use lib.IntN.{ℤ, pos, negsuc, subℕ, negℤ, _+ℤ_, _-ℤ_}
 use lib.Signed.{leZ, ltZ}
 use borrow.Author.Tests.{le-leb, lt-leb, ltb-true, ltb-false}
 use Rattle.bits.specs.Choice.{pick}
-use Rattle.bits.proofs.Tests.{not-leb, not-ltb}
+use Rattle.bits.proofs.Tests.{not-leb}
 use Rattle.datapath.specs.Signed.{signedValue, inRange}
 
 -- z is p - q
@@ -58,10 +58,7 @@ not-leZ (negsuc m) (pos n) = refl
 not-leZ (negsuc m) (negsuc n) = not-leb n m
 
 pub not-ltZ : (y z : ℤ) → not (ltZ z y) ≡ leZ y z
-not-ltZ (pos m) (pos n) = not-ltb m n
-not-ltZ (pos m) (negsuc n) = refl
-not-ltZ (negsuc m) (pos n) = refl
-not-ltZ (negsuc m) (negsuc n) = not-ltb n m
+not-ltZ y z = ap not (sym (not-leZ z y)) ∙ Bool·not-not (leZ y z)
 
 -- the range
 module _ (z : ℤ) (p q : ℕ) (i : Is z p q) where

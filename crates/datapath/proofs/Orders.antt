@@ -35,6 +35,10 @@ signed w h = go (bit w 31) (num-bit w 31)
 
 -- ---- a comparison: a - b, and nothing more taken
 
+-- what it leaves
+abbrev left : ℕ → ℕ → ℕ
+left a b = (a + 2 ^ 32 - (b + 0)) % 2 ^ 32
+
 module _ (a b : ℕ) (ha : a < 2 ^ 32) (hb : b < 2 ^ 32) where
   -- C: b is at most a
   pub compared-carry : difference a b true .carry ≡ leb b a
@@ -46,12 +50,9 @@ module _ (a b : ℕ) (ha : a < 2 ^ 32) (hb : b < 2 ^ 32) where
   unfolding difference
   compared-zero = go (eqb a b) refl
     where
-      r : ℕ
-      r = (a + 2 ^ 32 - (b + 0)) % 2 ^ 32
-
-      go : (t : Bool) → eqb a b ≡ t → eqb r 0 ≡ t
-      go true e = let q : a ≡ b = eqb-true a b e in eq-eqb r 0 (omega arith)
-      go false e = let q : a ≢ b = eqb-false a b e in ne-eqb r 0 (λ (z : r ≡ 0). q (omega arith))
+      go : (t : Bool) → eqb a b ≡ t → eqb (left a b) 0 ≡ t
+      go true e = let q : a ≡ b = eqb-true a b e in eq-eqb (left a b) 0 (omega arith)
+      go false e = let q : a ≢ b = eqb-false a b e in ne-eqb (left a b) 0 (λ (z : left a b ≡ 0). q (omega arith))
 
 module _ (a b r q x y z : ℕ) (u v : ℤ) (iu : Is u x (2 ^ 31)) (iv : Is v y (2 ^ 31)) where
   yes : y ≤ x → true ≡ leZ v u
@@ -76,14 +77,11 @@ pub compared-signed : (a b : ℕ) → a < 2 ^ 32 → b < 2 ^ 32
     → same (bit (difference a b true .value) 31) (difference a b true .overflow) ≡ leZ (signedValue b) (signedValue a)
 unfolding difference
 compared-signed a b ha hb =
-    signed-order a b r ((r + b) / 2 ^ 32) _ _ _ (signedValue a) (signedValue b) (signed-is a ha) (signed-is b hb) _ _ _
+    signed-order a b (left a b) ((left a b + b) / 2 ^ 32) _ _ _ (signedValue a) (signedValue b) (signed-is a ha) (signed-is b hb) _ _ _
     (signed a ha)
     (signed b hb)
-    (signed r (omega arith))
+    (signed (left a b) (omega arith))
     (omega arith)
-  where
-    r : ℕ
-    r = (a + 2 ^ 32 - (b + 0)) % 2 ^ 32
 
 -- unequal and at most: below
 pub signed-below : (a b : ℕ) → a < 2 ^ 32 → b < 2 ^ 32
@@ -124,23 +122,19 @@ module _ (a b r q x y z k : ℕ) (w : ℤ) (l : k ≤ 1) where
       → r + 2 ^ 32 * q ≡ a + b + k → (same sa sb && not (same sr sa)) ≡ not (inRange w)
   sum-range i true true true ka kb kr e = inside w _ _ i (omega arith) (omega arith)
   sum-range i true true false ka kb kr e = below w _ _ i (omega arith)
-  sum-range i true false true ka kb kr e = inside w _ _ i (omega arith) (omega arith)
-  sum-range i true false false ka kb kr e = inside w _ _ i (omega arith) (omega arith)
-  sum-range i false true true ka kb kr e = inside w _ _ i (omega arith) (omega arith)
-  sum-range i false true false ka kb kr e = inside w _ _ i (omega arith) (omega arith)
+  sum-range i true false sr ka kb kr e = inside w _ _ i (omega arith) (omega arith)
+  sum-range i false true sr ka kb kr e = inside w _ _ i (omega arith) (omega arith)
   sum-range i false false true ka kb kr e = above w _ _ i (omega arith)
   sum-range i false false false ka kb kr e = inside w _ _ i (omega arith) (omega arith)
 
   difference-range : Is w (x + 2 ^ 31 + 0) (2 ^ 31 + y + k) → (sa sb sr : Bool) → Signed a x sa → Signed b y sb → Signed r z sr
       → r + (b + k) ≡ a + 2 ^ 32 * q → (not (same sa sb) && not (same sr sa)) ≡ not (inRange w)
-  difference-range i true true true ka kb kr e = inside w _ _ i (omega arith) (omega arith)
-  difference-range i true true false ka kb kr e = inside w _ _ i (omega arith) (omega arith)
+  difference-range i true true sr ka kb kr e = inside w _ _ i (omega arith) (omega arith)
   difference-range i true false true ka kb kr e = inside w _ _ i (omega arith) (omega arith)
   difference-range i true false false ka kb kr e = below w _ _ i (omega arith)
   difference-range i false true true ka kb kr e = above w _ _ i (omega arith)
   difference-range i false true false ka kb kr e = inside w _ _ i (omega arith) (omega arith)
-  difference-range i false false true ka kb kr e = inside w _ _ i (omega arith) (omega arith)
-  difference-range i false false false ka kb kr e = inside w _ _ i (omega arith) (omega arith)
+  difference-range i false false sr ka kb kr e = inside w _ _ i (omega arith) (omega arith)
 
 pub overflow : Overflow
 unfolding sum difference

@@ -9,16 +9,25 @@ use lib.Dec.{ltb, leb, eqb, lit<}
 use lib.Pow as Pow
 use lib.Pow.{pow-pos, pow-add, shr-le}
 use lib.Signed.{shrZ}
-use borrow.Author.Tests.{ltb-true, ltb-false, leb-true, leb-false, ne-eqb}
+use borrow.Author.Tests.{lt-ltb, le-ltb, leb-true, leb-false, ne-eqb}
 use Rattle.bits.specs.Choice.{pick}
 use Rattle.bits.specs.Bits.{bit, field, num}
 use Rattle.bits.proofs.Fields.{bit-of, word-lt}
+use Rattle.datapath.specs.declared.Shifted.{Shifted}
 use Rattle.datapath.specs.Shifter.{shifted, rotated, signed, lsl, lsr, asr, ror, shift, constant}
 use Rattle.datapath.specs.Signed.{signedValue}
 use Rattle.datapath.specs.Shifts.{after, Shifts}
 use Rattle.datapath.proofs.Moved.{room-le, room-even, shr-word-lt, signed-whole, turned-word-lt}
 use Rattle.datapath.proofs.Rotations.{turned-bit}
 use Rattle.datapath.proofs.Floors.{below-32, from-32}
+
+-- what holds of both choices by an order, each where it is made
+chosen : {A : Type 0} (P : A → Type 0) (m n : ℕ) {x y : A} → (m ≤ n → P x) → (n < m → P y) → P (pick (leb m n) x y)
+chosen P m n {x} {y} f g = go (leb m n) refl
+  where
+    go : (t : Bool) → leb m n ≡ t → P (pick t x y)
+    go true e = f (leb-true m n e)
+    go false e = g (leb-false m n e)
 
 -- ---- LSL
 
@@ -32,11 +41,7 @@ left-out v n h =
 
 lsl-multiplies : (v n : ℕ) → lsl v n .value ≡ v * 2 ^ n % 2 ^ 32
 unfolding lsl
-lsl-multiplies v n = go (leb n 32) refl _
-  where
-    go : (t : Bool) → leb n 32 ≡ t → (c : Bool) → pick t (shifted (v * 2 ^ n % 2 ^ 32) c) (shifted 0 false) .value ≡ v * 2 ^ n % 2 ^ 32
-    go true e c = refl
-    go false e c = let l : 32 < n = leb-false n 32 e in sym (left-out v n (omega arith))
+lsl-multiplies v n = chosen (λ (s : Shifted). s .value ≡ v * 2 ^ n % 2 ^ 32) n 32 (λ l. refl) (λ l. sym (left-out v n (omega arith)))
 
 after-lsl : (v n : ℕ) → v < 2 ^ 32 → after lsl v n ≡ v * 2 ^ n % 2 ^ 32
 after-lsl v zero h = omega arith
@@ -53,21 +58,16 @@ left-bit v n h =
 
 lsl-carry : (v n : ℕ) → v < 2 ^ 32 → lsl v (suc n) .carry ≡ bit (after lsl v n) 31
 unfolding lsl bit field
-lsl-carry v n h = rw (after-lsl v n h) (go (leb (suc n) 32) refl _)
-  where
-    go : (t : Bool) → leb (suc n) 32 ≡ t → (x : ℕ) → pick t (shifted x (bit v (32 - suc n))) (shifted 0 false) .carry ≡ bit (v * 2 ^ n % 2 ^ 32) 31
-    go true e x = let l : suc n ≤ 32 = leb-true (suc n) 32 e in left-bit v n (omega arith)
-    go false e x = let l : 32 < suc n = leb-false (suc n) 32 e in rw (left-out v n (omega arith))
+lsl-carry v n h =
+    rw (after-lsl v n h)
+    (chosen (λ (s : Shifted). s .carry ≡ bit (v * 2 ^ n % 2 ^ 32) 31) (suc n) 32 (λ l. left-bit v n (omega arith)) (λ l. rw (left-out v n (omega arith))))
 
 -- ---- LSR
 
 lsr-divides : (v n : ℕ) → v < 2 ^ 32 → lsr v n .value ≡ v / 2 ^ n
 unfolding lsr
-lsr-divides v n h = go (leb n 32) refl _
-  where
-    go : (t : Bool) → leb n 32 ≡ t → (c : Bool) → pick t (shifted (v / 2 ^ n) c) (shifted 0 false) .value ≡ v / 2 ^ n
-    go true e c = refl
-    go false e c = let l : 32 < n = leb-false n 32 e in sym (div-eq-of-lt (word-lt v n h (omega arith)))
+lsr-divides v n h =
+    chosen (λ (s : Shifted). s .value ≡ v / 2 ^ n) n 32 (λ l. refl) (λ l. sym (div-eq-of-lt (word-lt v n h (omega arith))))
 
 after-lsr : (v n : ℕ) → v < 2 ^ 32 → after lsr v n ≡ v / 2 ^ n
 after-lsr v zero h = omega arith
@@ -83,22 +83,16 @@ right-bit v n =
 
 lsr-carry : (v n : ℕ) → v < 2 ^ 32 → lsr v (suc n) .carry ≡ bit (after lsr v n) 0
 unfolding lsr bit field
-lsr-carry v n h = rw (after-lsr v n h) (go (leb (suc n) 32) refl _)
-  where
-    go : (t : Bool) → leb (suc n) 32 ≡ t → (x : ℕ) → pick t (shifted x (bit v (suc n - 1))) (shifted 0 false) .carry ≡ bit (v / 2 ^ n) 0
-    go true e x = right-bit v n
-    go false e x = let l : 32 < suc n = leb-false (suc n) 32 e in rw (div-eq-of-lt (word-lt v n h (omega arith)))
+lsr-carry v n h =
+    rw (after-lsr v n h)
+    (chosen (λ (s : Shifted). s .carry ≡ bit (v / 2 ^ n) 0) (suc n) 32 (λ l. right-bit v n) (λ l. rw (div-eq-of-lt (word-lt v n h (omega arith)))))
 
 -- ---- ASR
 
 asr-divides : (v n : ℕ) → v < 2 ^ 32 → signedValue (asr v n .value) ≡ shrZ (signedValue v) (2 ^ n)
 unfolding asr
-asr-divides v n h = go (ltb n 32) refl _ _
-  where
-    go : (t : Bool) → ltb n 32 ≡ t → (c d : Bool)
-        → signedValue (pick t (shifted (signed v n) c) (shifted (signed v 32) d) .value) ≡ shrZ (signedValue v) (2 ^ n)
-    go true e c d = below-32 v n h (ltb-true n 32 e)
-    go false e c d = from-32 v n h (ltb-false n 32 e)
+asr-divides v n h =
+    chosen (λ (s : Shifted). signedValue (s .value) ≡ shrZ (signedValue v) (2 ^ n)) (suc n) 32 (below-32 v n h) (λ l. from-32 v n h (omega arith))
 
 -- what the sign fills is even, below 32 places
 signed-even : (v n : ℕ) → n < 32 → bit (signed v n) 0 ≡ bit (v / 2 ^ n) 0
@@ -121,12 +115,10 @@ signed-all v h = bit-of (signed v 32) 0 (bit v 31) (go (bit v 31))
 module _ (v : ℕ) (h : v < 2 ^ 32) where
   asr-low : (n : ℕ) → bit (asr v n .value) 0 ≡ pick (ltb n 32) (bit (v / 2 ^ n) 0) (bit v 31)
   unfolding asr
-  asr-low n = go (ltb n 32) refl _ _
-    where
-      go : (t : Bool) → ltb n 32 ≡ t → (c d : Bool)
-          → bit (pick t (shifted (signed v n) c) (shifted (signed v 32) d) .value) 0 ≡ pick t (bit (v / 2 ^ n) 0) (bit v 31)
-      go true e c d = signed-even v n (ltb-true n 32 e)
-      go false e c d = signed-all v h
+  asr-low n =
+      chosen (λ (s : Shifted). bit (s .value) 0 ≡ pick (ltb n 32) (bit (v / 2 ^ n) 0) (bit v 31)) (suc n) 32
+      (λ l. rw (lt-ltb n 32 l) (signed-even v n l))
+      (λ l. rw (le-ltb n 32 (omega arith)) (signed-all v h))
 
   after-asr : (n : ℕ) → bit (after asr v n) 0 ≡ pick (ltb n 32) (bit (v / 2 ^ n) 0) (bit v 31)
   after-asr zero = let e : v / 1 ≡ v = omega arith in rw e
@@ -134,16 +126,13 @@ module _ (v : ℕ) (h : v < 2 ^ 32) where
 
   asr-carry : (n : ℕ) → asr v (suc n) .carry ≡ bit (after asr v n) 0
   unfolding asr
-  asr-carry n = rw (after-asr n) (go (ltb (suc n) 32) (ltb n 32) refl refl _ _)
-    where
-      go : (s t : Bool) → ltb (suc n) 32 ≡ s → ltb n 32 ≡ t → (x y : ℕ)
-          → pick s (shifted x (bit v (suc n - 1))) (shifted y (bit v 31)) .carry ≡ pick t (bit (v / 2 ^ n) 0) (bit v 31)
-      go true true d e x y = right-bit v n
-      go true false d e x y = absurd (omega (arith, ltb-true (suc n) 32 d, ltb-false n 32 e))
-      go false true d e x y =
-          let k : suc n - 1 ≡ 31 = omega (arith, ltb-false (suc n) 32 d, ltb-true n 32 e) in
-          sym (ap (bit v) k) ∙ right-bit v n
-      go false false d e x y = refl
+  asr-carry n =
+      rw (after-asr n)
+      (chosen (λ (s : Shifted). s .carry ≡ pick (ltb n 32) (bit (v / 2 ^ n) 0) (bit v 31)) (suc (suc n)) 32
+      (λ l. rw (lt-ltb n 32 (omega arith)) (right-bit v n))
+      (λ l. chosen (λ (b : Bool). bit v 31 ≡ b) (suc n) 32
+      (λ k. let e : suc n - 1 ≡ 31 = omega arith in sym (ap (bit v) e) ∙ right-bit v n)
+      (λ k. refl)))
 
 -- ---- ROR, and constants
 
@@ -186,11 +175,8 @@ signed-lt v n h l = go (bit v 31)
 
 asr-lt : (v n : ℕ) → v < 2 ^ 32 → asr v n .value < 2 ^ 32
 unfolding asr
-asr-lt v n h = go (ltb n 32) refl _ _
-  where
-    go : (t : Bool) → ltb n 32 ≡ t → (c d : Bool) → pick t (shifted (signed v n) c) (shifted (signed v 32) d) .value < 2 ^ 32
-    go true e c d = signed-lt v n h (ltb-true n 32 e)
-    go false e c d = rw (← (signed-whole v h)) (signed-lt v 31 h (lit< tt))
+asr-lt v n h =
+    chosen (λ (s : Shifted). s .value < 2 ^ 32) (suc n) 32 (signed-lt v n h) (λ l. rw (← (signed-whole v h)) (signed-lt v 31 h (lit< tt)))
 
 ror-lt : (v n : ℕ) → v < 2 ^ 32 → ror v n .value < 2 ^ 32
 unfolding ror rotated
@@ -198,13 +184,10 @@ ror-lt v n h = turned-word-lt v (n % 32) h (omega arith)
 
 words : (kind v n : ℕ) → v < 2 ^ 32 → shift kind v n .value < 2 ^ 32
 unfolding shift
-words kind v n h = go (eqb kind 0) (eqb kind 1) (eqb kind 2)
-  where
-    go : (a b c : Bool) → pick a (lsl v n) (pick b (lsr v n) (pick c (asr v n) (ror v n))) .value < 2 ^ 32
-    go true b c = rw (lsl-multiplies v n) (mod-lt (v * 2 ^ n) (pow-pos 32))
-    go false true c = rw (lsr-divides v n h) (omega (arith, shr-le v n))
-    go false false true = asr-lt v n h
-    go false false false = ror-lt v n h
+words zero v n h = rw (lsl-multiplies v n) (mod-lt (v * 2 ^ n) (pow-pos 32))
+words (suc zero) v n h = rw (lsr-divides v n h) (omega (arith, shr-le v n))
+words (suc (suc zero)) v n h = asr-lt v n h
+words (suc (suc (suc kind))) v n h = ror-lt v n h
 
 pub shifts : Shifts
 shifts = record {

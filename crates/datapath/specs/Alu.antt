@@ -1,9 +1,11 @@
 -- The ALU: the sixteen operations, and the flags they leave with S (paper 01, "Operations 0-15").
-use Prim.Native.Nat.{ℕ, _+_, _-_, _*_, _/_, _%_, _^_}
+use Prim.Native.Nat.{ℕ, _+_, _-_, _*_, _%_, _^_}
 use mathlib.Core.Bool.{Bool, true, false, not, _&&_}
+use mathlib.Core.List.{List, [], _∷_}
 use lib.Dec.{ltb, leb, eqb}
+use lib.ListN.{getD}
 use lib.Bits.{bitAnd, bitOr, bitXor}
-use Rattle.bits.specs.Choice.{pick, same}
+use Rattle.bits.specs.Choice.{same}
 use Rattle.bits.specs.Bits.{bit, num}
 use Rattle.datapath.specs.declared.Computed.{Computed}
 
@@ -36,26 +38,30 @@ difference a b c =
 abbrev pub inverted : ℕ → ℕ
 inverted a = 2 ^ 32 - 1 - a
 
--- what operation op makes of Rn's value a and the operand b, with the shifter's carry s and the flags C and V:
+-- the results of the sixteen operations in order, on Rn's value a and the operand b, with the shifter's carry s and the flags C and V:
 -- logical operations take C from the shifter and keep V
+abbrev pub results : ℕ → ℕ → Bool → Bool → Bool → List Computed
+results a b s c v =
+    computed (bitAnd a b) s v ∷  -- AND
+    computed (bitXor a b) s v ∷  -- EOR
+    difference a b true ∷  -- SUB
+    difference b a true ∷  -- RSB
+    sum a b false ∷  -- ADD
+    sum a b c ∷  -- ADC
+    difference a b c ∷  -- SBC
+    difference b a c ∷  -- RSC
+    computed (bitAnd a b) s v ∷  -- TST
+    computed (bitXor a b) s v ∷  -- TEQ
+    difference a b true ∷  -- CMP
+    sum a b false ∷  -- CMN
+    computed (bitOr a b) s v ∷  -- ORR
+    computed b s v ∷  -- MOV
+    computed (bitAnd a (inverted b)) s v ∷  -- BIC
+    computed (inverted b) s v ∷ []  -- MVN
+
+-- what operation op makes; above 15 it is read as MVN
 unfoldable pub operate : ℕ → ℕ → ℕ → Bool → Bool → Bool → Computed
-operate op a b s c v =
-    pick (eqb op 0) (computed (bitAnd a b) s v)  -- AND
-    (pick (eqb op 1) (computed (bitXor a b) s v)  -- EOR
-    (pick (eqb op 2) (difference a b true)  -- SUB
-    (pick (eqb op 3) (difference b a true)  -- RSB
-    (pick (eqb op 4) (sum a b false)  -- ADD
-    (pick (eqb op 5) (sum a b c)  -- ADC
-    (pick (eqb op 6) (difference a b c)  -- SBC
-    (pick (eqb op 7) (difference b a c)  -- RSC
-    (pick (eqb op 8) (computed (bitAnd a b) s v)  -- TST
-    (pick (eqb op 9) (computed (bitXor a b) s v)  -- TEQ
-    (pick (eqb op 10) (difference a b true)  -- CMP
-    (pick (eqb op 11) (sum a b false)  -- CMN
-    (pick (eqb op 12) (computed (bitOr a b) s v)  -- ORR
-    (pick (eqb op 13) (computed b s v)  -- MOV
-    (pick (eqb op 14) (computed (bitAnd a (inverted b)) s v)  -- BIC
-    (computed (inverted b) s v)))))))))))))))
+operate op a b s c v = getD (results a b s c v) op (computed (inverted b) s v)
 
 -- TST to CMN store no result
 abbrev pub storesResult : ℕ → Bool

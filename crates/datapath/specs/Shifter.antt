@@ -1,7 +1,9 @@
 -- The shifter: a value shifted, and its carry out (paper 01, "Shifts").
 use Prim.Native.Nat.{ℕ, _+_, _-_, _*_, _/_, _%_, _^_}
-use mathlib.Core.Bool.{Bool, true, false}
+use mathlib.Core.Bool.{Bool, false}
+use mathlib.Core.List.{[], _∷_}
 use lib.Dec.{ltb, leb, eqb}
+use lib.ListN.{getD}
 use Rattle.bits.specs.Choice.{pick}
 use Rattle.bits.specs.Bits.{bit, num}
 use Rattle.datapath.specs.declared.Shifted.{Shifted}
@@ -32,9 +34,9 @@ asr v n = pick (ltb n 32) (shifted (signed v n) (bit v (n - 1))) (shifted (signe
 unfoldable pub ror : ℕ → ℕ → Shifted
 ror v n = shifted (rotated v n) (bit (rotated v n) 31)
 
--- bits 6..5 of a word: LSL, LSR, ASR, ROR
+-- bits 6..5 of a word: LSL, LSR, ASR, and from 3 on ROR
 unfoldable pub shift : ℕ → ℕ → ℕ → Shifted
-shift kind v n = pick (eqb kind 0) (lsl v n) (pick (eqb kind 1) (lsr v n) (pick (eqb kind 2) (asr v n) (ror v n)))
+shift kind v n = getD (lsl v n ∷ lsr v n ∷ asr v n ∷ []) kind (ror v n)
 
 -- by register: the amount is the low byte of Rs, and 0 keeps value and C
 unfoldable pub byRegister : ℕ → ℕ → ℕ → Bool → Shifted
@@ -42,11 +44,7 @@ byRegister kind v rs c = pick (eqb (rs % 256) 0) (shifted v c) (shift kind v (rs
 
 -- amount 0 in the word: LSL keeps value and C, LSR and ASR mean 32, ROR means one place right through C
 abbrev pub zeroAmount : ℕ → ℕ → Bool → Shifted
-zeroAmount kind v c =
-    pick (eqb kind 0) (shifted v c)
-    (pick (eqb kind 1) (lsr v 32)
-    (pick (eqb kind 2) (asr v 32)
-    (shifted (v / 2 + num c * 2 ^ 31) (bit v 0))))
+zeroAmount kind v c = getD (shifted v c ∷ lsr v 32 ∷ asr v 32 ∷ []) kind (shifted (v / 2 + num c * 2 ^ 31) (bit v 0))
 
 unfoldable pub byAmount : ℕ → ℕ → ℕ → Bool → Shifted
 byAmount kind v amount c = pick (eqb amount 0) (zeroAmount kind v c) (shift kind v amount)

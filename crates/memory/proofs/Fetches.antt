@@ -1,22 +1,17 @@
 -- A fetch gives the word inside memory, and blank outside.
 -- Assumes nothing.
 use mathlib.Core.Path.{_≡_}
-use mathlib.Core.Bool.{false}
-use mathlib.Core.List.{List}
-use Prim.Native.Nat.{ℕ, _+_, _≤_}
+use Prim.Native.Nat.{ℕ, _≤_, _<_}
 use native.Mathlib.Omega.{arith}
 use lib.ListN.{length}
-use borrow.Author.Tests.{le-ltb}
-use Rattle.memory.specs.Memory.{wordBase, holdsWord}
+use borrow.Author.Tests.{lt-ltb, le-ltb}
+use Rattle.memory.specs.Memory.{Memory, place, limit, wordAt}
 use Rattle.memory.specs.Fetches.{Fetches}
-use Rattle.memory.proofs.Laws.{holds-word, word-at-held, word-at-blank}
-
-not-held : (mem : List ℕ) (a : ℕ) → length mem ≤ a → holdsWord mem a ≡ false
-unfolding holdsWord
-not-held mem a h = le-ltb (wordBase a + 3) (length mem) (omega arith)
+use Rattle.memory.proofs.ByteLaws.{holds-word, read-held}
 
 pub fetches : Fetches
-fetches = record {
-  inside = λ mem a whole h. word-at-held mem a (holds-word mem a h whole);
-  outside = λ mem a h. word-at-blank mem a (not-held mem a h);
+unfolding wordAt limit place
+fetches m e whole = record {
+  inside = λ a h. rw (lt-ltb a (m .board .size) (omega arith), read-held (m .bytes) a (holds-word (m .bytes) a h whole));
+  outside = λ a h. rw (le-ltb a (m .board .size) (omega arith));
 }

@@ -7,9 +7,10 @@ use Prim.Native.Nat.{ℕ, zero, suc, _+_, _/_, _%_, _^_, _<_}
 use native.Mathlib.Omega.{arith}
 use lib.ListN.{length, getD}
 use Rattle.bits.specs.Bits.{field}
-use Rattle.memory.specs.Memory.{wordBase, holdsWord, loadWord, readWord, writeWord, readByte, writeByte}
+use Rattle.memory.specs.Bytes.{wordBase, holdsWord, loadWord, wordIn, withWord, byteIn, withByte}
+use Rattle.memory.specs.Memory.{Memory, place, limit}
 use Rattle.memory.specs.Lanes.{lane, Bytes, Lanes}
-use Rattle.memory.proofs.Laws.{read-held, read-same-word, holds-word, write-length, write-byte-length, write-bytes, write-byte-bytes, byte-other, byte-other-byte, read-back, read-byte-back}
+use Rattle.memory.proofs.ByteLaws.{read-held, read-same-word, holds-word, write-length, write-byte-length, write-bytes, write-byte-bytes, byte-other, byte-other-byte, read-back, read-byte-back}
 
 -- the bytes of the word at a place
 lanes-at : (mem : List ℕ) → Bytes mem → (at k : ℕ) → k < 4 → getD mem (at + k) 0 ≡ lane (loadWord mem at) k
@@ -29,34 +30,38 @@ module _ (mem : List ℕ) (bytes : Bytes mem) (whole : length mem % 4 ≡ 0) whe
   held : (m : List ℕ) (a : ℕ) → length m ≡ length mem → a < length mem → holdsWord m a ≡ true
   held m a e h = holds-word m a (omega arith) (omega arith)
 
-  read : (m : List ℕ) (a : ℕ) → Bytes m → length m ≡ length mem → a < length mem → readByte m a ≡ lane (readWord m a) (a % 4)
-  unfolding readByte
+  read : (m : List ℕ) (a : ℕ) → Bytes m → length m ≡ length mem → a < length mem → byteIn m a ≡ lane (wordIn m a) (a % 4)
+  unfolding byteIn
   read m a b l h =
       let e : a ≡ wordBase a + a % 4 = omega arith in
       rw (read-held m a (held m a l h)) (ap (λ (x : ℕ). getD m x 0) e ∙ lanes-at m b (wordBase a) (a % 4) (omega arith))
 
   module _ (a : ℕ) (h : a < length mem) where
-    written : (b v : ℕ) → a / 4 ≡ b / 4 → v < 2 ^ 32 → readByte (writeWord mem a v) b ≡ lane v (b % 4)
+    written : (b v : ℕ) → a / 4 ≡ b / 4 → v < 2 ^ 32 → byteIn (withWord mem a v) b ≡ lane v (b % 4)
     written b v e l =
-        read (writeWord mem a v) b (write-bytes mem a v bytes) (write-length mem a v) (omega arith)
+        read (withWord mem a v) b (write-bytes mem a v bytes) (write-length mem a v) (omega arith)
         ∙ ap (λ (w : ℕ). lane w (b % 4))
-        (sym (read-same-word (writeWord mem a v) a b e) ∙ read-back mem a v (held mem a refl h) l)
+        (sym (read-same-word (withWord mem a v) a b e) ∙ read-back mem a v (held mem a refl h) l)
 
-    after : (b v : ℕ) → b < length mem → readByte (writeByte mem a v) b ≡ lane (readWord (writeByte mem a v) b) (b % 4)
-    after b v k = read (writeByte mem a v) b (write-byte-bytes mem a v bytes) (write-byte-length mem a v) k
+    after : (b v : ℕ) → b < length mem → byteIn (withByte mem a v) b ≡ lane (wordIn (withByte mem a v) b) (b % 4)
+    after b v k = read (withByte mem a v) b (write-byte-bytes mem a v bytes) (write-byte-length mem a v) k
 
-    stored : (v : ℕ) → lane (readWord (writeByte mem a v) a) (a % 4) ≡ lane v 0
+    stored : (v : ℕ) → lane (wordIn (withByte mem a v) a) (a % 4) ≡ lane v 0
     unfolding field
     stored v = sym (after a v h) ∙ read-byte-back mem a v h ∙ omega arith
 
-    kept : (b v : ℕ) → b < length mem → (a ≡ b → ⊥) → lane (readWord (writeByte mem a v) b) (b % 4) ≡ lane (readWord mem b) (b % 4)
+    kept : (b v : ℕ) → b < length mem → (a ≡ b → ⊥) → lane (wordIn (withByte mem a v) b) (b % 4) ≡ lane (wordIn mem b) (b % 4)
     kept b v k n = sym (after b v k) ∙ byte-other-byte mem a b v n ∙ read mem b bytes refl k
 
 pub lanes : Lanes
-lanes mem a bytes whole h = record {
-  read = read mem bytes whole mem a bytes refl h;
-  written = written mem bytes whole a h;
-  unwritten = λ b v n. byte-other mem a b v n;
-  stored = stored mem bytes whole a h;
-  kept = kept mem bytes whole a h;
-}
+unfolding place limit
+lanes m a bytes e whole h =
+    let mem = m .bytes in
+    let k : a < length mem = omega arith in
+    record {
+      read = read mem bytes whole mem a bytes refl k;
+      written = written mem bytes whole a k;
+      unwritten = λ b v n. byte-other mem a b v n;
+      stored = stored mem bytes whole a k;
+      kept = λ b v l. kept mem bytes whole a k b v (omega arith);
+    }

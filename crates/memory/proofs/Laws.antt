@@ -1,217 +1,42 @@
--- The laws of memory: what a write keeps, and what is read back. They are stated over the number of the word, address / 4,
--- so that no address has to be aligned.
+-- The laws of memory as a board answers: what a write keeps, and what is read back, by the word in which an address lies.
 -- Assumes nothing.
-use Prim.Native.Nat.{ℕ, _+_, _/_, _%_, _^_, _<_}
-use mathlib.Core.Path.{_≡_, refl, ap, sym, _∙_}
-use mathlib.Core.Bool.{Bool, true, false}
-use mathlib.Core.List.{List}
-use mathlib.Core.Logic.{_≢_}
+use Prim.Native.Nat.{ℕ, _/_, _%_, _^_, _<_}
+use mathlib.Core.Path.{_≡_}
+use mathlib.Core.Bool.{true}
 use native.Mathlib.Omega.{arith}
-use lib.Dec.{lit<, eqb, ltb}
-use lib.ListN.{length, getD, set, length-set}
-use lib.Pow.{mod-pow-add, recompose}
-use lib.Seq.{getD-set-same, getD-set-other, lt-length-set, set-out}
-use borrow.Author.Tests.{lt-ltb, ltb-true, ltb-false, eqb-true, eqb-false}
-use Rattle.bits.specs.Choice.{pick}
-use Rattle.memory.specs.declared.Fetched.the-variants.{Word, Blank}
-use Rattle.memory.specs.Lanes.{Bytes}
-use Rattle.memory.specs.Memory.{wordBase, holdsWord, little, loadWord, storeWord, readWord, writeWord, readByte, writeByte, wordAt}
+use lib.ListN.{length}
+use Rattle.memory.specs.Bytes.{holdsWord}
+use Rattle.memory.specs.Memory.{Memory, place, limit, readWord, writeWord, writeByte, wordAt}
+use Rattle.memory.proofs.ByteLaws as bytes
 
--- ---- the word of an address, inside memory or not
+module _ (m : Memory) (a : ℕ) where
+  -- the word of the address is in the lent bytes
+  abbrev pub Held : Type 0
+  Held = holdsWord (m .bytes) (place (m .board) a) ≡ true
 
--- a memory of whole words holds the word of each address below its length
-pub holds-word : (mem : List ℕ) (a : ℕ) → a < length mem → length mem % 4 ≡ 0 → holdsWord mem a ≡ true
-unfolding holdsWord
-holds-word mem a h whole = lt-ltb (wordBase a + 3) (length mem) (omega arith)
+  -- it is where the address answers
+  pub held : length (m .bytes) ≡ m .board .size → length (m .bytes) % 4 ≡ 0 → a < limit (m .board) → Held
+  unfolding place limit
+  held e whole h = bytes.holds-word (m .bytes) a (omega arith) whole
 
--- whether a word is held goes by the length alone
-pub holds-length : (m n : List ℕ) (a : ℕ) → length m ≡ length n → holdsWord m a ≡ holdsWord n a
-unfolding holdsWord
-holds-length m n a e = rw e
+  pub write-length : (v : ℕ) → length (writeWord m a v .bytes) ≡ length (m .bytes)
+  write-length v = bytes.write-length (m .bytes) (place (m .board) a) v
 
-module _ (mem : List ℕ) (a : ℕ) (h : holdsWord mem a ≡ true) where
-  pub held-lt : wordBase a + 3 < length mem
-  unfolding holdsWord
-  held-lt = ltb-true (wordBase a + 3) (length mem) h
+  pub write-byte-length : (v : ℕ) → length (writeByte m a v .bytes) ≡ length (m .bytes)
+  write-byte-length v = bytes.write-byte-length (m .bytes) (place (m .board) a) v
 
-  pub read-held : readWord mem a ≡ loadWord mem (wordBase a)
-  unfolding readWord
-  read-held = rw h
-
-  pub write-held : (v : ℕ) → writeWord mem a v ≡ storeWord mem (wordBase a) v
-  unfolding writeWord
-  write-held v = rw h
-
-  pub word-at-held : wordAt mem a ≡ Word (readWord mem a)
-  unfolding wordAt
-  word-at-held = rw h
-
-pub read-out : (mem : List ℕ) (a : ℕ) → holdsWord mem a ≡ false → readWord mem a ≡ 0
-unfolding readWord
-read-out mem a h = rw h
-
-pub write-out : (mem : List ℕ) (a v : ℕ) → holdsWord mem a ≡ false → writeWord mem a v ≡ mem
-unfolding writeWord
-write-out mem a v h = rw h
-
-pub word-at-blank : (mem : List ℕ) (a : ℕ) → holdsWord mem a ≡ false → wordAt mem a ≡ Blank
-unfolding wordAt
-word-at-blank mem a h = rw h
-
--- two addresses of one word
-module _ (mem : List ℕ) (a b : ℕ) (e : a / 4 ≡ b / 4) where
-  pub holds-same-word : holdsWord mem a ≡ holdsWord mem b
-  unfolding holdsWord
-  holds-same-word = rw e
-
-  pub read-same-word : readWord mem a ≡ readWord mem b
-  unfolding readWord
-  read-same-word = rw (holds-same-word, e)
-
-  pub word-at-same-word : wordAt mem a ≡ wordAt mem b
-  unfolding wordAt
-  word-at-same-word = rw (holds-same-word, read-same-word)
-
-  pub write-same-word : (v : ℕ) → writeWord mem a v ≡ writeWord mem b v
-  unfolding writeWord
-  write-same-word v = rw (holds-same-word, e)
-
--- ---- what a write keeps
-
--- the length
-pub write-length : (mem : List ℕ) (a v : ℕ) → length (writeWord mem a v) ≡ length mem
-unfolding writeWord
-write-length mem a v = go (holdsWord mem a)
-  where
-    go : (b : Bool) → length (pick b (storeWord mem (wordBase a) v) mem) ≡ length mem
-    go true = simp length-set
-    go false = refl
-
-pub write-byte-length : (mem : List ℕ) (a v : ℕ) → length (writeByte mem a v) ≡ length mem
-unfolding writeByte
-write-byte-length mem a v = length-set mem a (v % 256)
-
--- the other bytes
-pub byte-other : (mem : List ℕ) (a k v : ℕ) → (a / 4 ≡ k / 4 → ⊥) → readByte (writeWord mem a v) k ≡ readByte mem k
-unfolding writeWord readByte
-byte-other mem a k v n = go (holdsWord mem a)
-  where
-    go : (b : Bool) → getD (pick b (storeWord mem (wordBase a) v) mem) k 0 ≡ getD mem k 0
-    go true =
-        let n0 : k ≢ wordBase a = λ e. n (omega arith) in
-        let n1 : k ≢ wordBase a + 1 = λ e. n (omega arith) in
-        let n2 : k ≢ wordBase a + 2 = λ e. n (omega arith) in
-        let n3 : k ≢ wordBase a + 3 = λ e. n (omega arith) in
-        simp getD-set-other
-    go false = refl
-
-pub byte-other-byte : (mem : List ℕ) (a k v : ℕ) → (a ≡ k → ⊥) → readByte (writeByte mem a v) k ≡ readByte mem k
-unfolding writeByte readByte
-byte-other-byte mem a k v n = getD-set-other mem a k (v % 256) 0 (λ e. n (sym e))
-
--- a word is read off the length and its own bytes
-module _ (m n : List ℕ) (b : ℕ) (e : length m ≡ length n) (same : (k : ℕ) → b / 4 ≡ k / 4 → readByte m k ≡ readByte n k) where
-  read-agree : readWord m b ≡ readWord n b
-  unfolding readWord readByte
-  read-agree =
-      rw (
-        holds-length m n b e,
-        same (wordBase b) (omega arith),
-        same (wordBase b + 1) (omega arith),
-        same (wordBase b + 2) (omega arith),
-        same (wordBase b + 3) (omega arith),
-      )
-
-  word-at-agree : wordAt m b ≡ wordAt n b
-  unfolding wordAt
-  word-at-agree = rw (holds-length m n b e, read-agree)
+  pub read-back : (v : ℕ) → Held → v < 2 ^ 32 → readWord (writeWord m a v) a ≡ v
+  read-back v = bytes.read-back (m .bytes) (place (m .board) a) v
 
 -- the other words
-module _ (mem : List ℕ) (a b v : ℕ) (n : a / 4 ≡ b / 4 → ⊥) where
-  word-kept : (k : ℕ) → b / 4 ≡ k / 4 → readByte (writeWord mem a v) k ≡ readByte mem k
-  word-kept k e = byte-other mem a k v (λ f. n (f ∙ sym e))
+module _ (m : Memory) (a b v : ℕ) (n : place (m .board) a / 4 ≡ place (m .board) b / 4 → ⊥) where
+  pub read-other : readWord (writeWord m a v) b ≡ readWord m b
+  read-other = bytes.read-other (m .bytes) (place (m .board) a) (place (m .board) b) v n
 
-  byte-kept : (k : ℕ) → b / 4 ≡ k / 4 → readByte (writeByte mem a v) k ≡ readByte mem k
-  byte-kept k e = byte-other-byte mem a k v (λ f. n (ap (λ (x : ℕ). x / 4) f ∙ sym e))
+  pub word-at-other : wordAt (writeWord m a v) b ≡ wordAt m b
+  unfolding wordAt
+  word-at-other = rw read-other
 
-  pub read-other : readWord (writeWord mem a v) b ≡ readWord mem b
-  read-other = read-agree (writeWord mem a v) mem b (write-length mem a v) word-kept
-
-  pub read-other-byte : readWord (writeByte mem a v) b ≡ readWord mem b
-  read-other-byte = read-agree (writeByte mem a v) mem b (write-byte-length mem a v) byte-kept
-
-  pub word-at-other : wordAt (writeWord mem a v) b ≡ wordAt mem b
-  word-at-other = word-at-agree (writeWord mem a v) mem b (write-length mem a v) word-kept
-
-  pub word-at-other-byte : wordAt (writeByte mem a v) b ≡ wordAt mem b
-  word-at-other-byte = word-at-agree (writeByte mem a v) mem b (write-byte-length mem a v) byte-kept
-
--- ---- what is read back
-
-digits : (v : ℕ) → v < 2 ^ 32 → little (v % 256) (v / 256 % 256) (v / 65536 % 256) (v / 16777216 % 256) ≡ v
-digits v h = omega (arith, mod-pow-add v 8 8, mod-pow-add v 8 16, recompose 8 24 h)
-
-load-store : (mem : List ℕ) (at v : ℕ) → at + 3 < length mem → v < 2 ^ 32 → loadWord (storeWord mem at v) at ≡ v
-load-store mem at v h bound =
-    let n01 : at ≢ at + 1 = λ e. omega arith in
-    let n02 : at ≢ at + 2 = λ e. omega arith in
-    let n03 : at ≢ at + 3 = λ e. omega arith in
-    let n12 : at + 1 ≢ at + 2 = λ e. omega arith in
-    let n13 : at + 1 ≢ at + 3 = λ e. omega arith in
-    let n23 : at + 2 ≢ at + 3 = λ e. omega arith in
-    let h0 : at < length mem = omega arith in
-    let h1 : at + 1 < length mem = omega arith in
-    let h2 : at + 2 < length mem = omega arith in
-    simp (getD-set-other, getD-set-same, lt-length-set) (digits v bound)
-
-pub read-back : (mem : List ℕ) (a v : ℕ) → holdsWord mem a ≡ true → v < 2 ^ 32 → readWord (writeWord mem a v) a ≡ v
-read-back mem a v h bound =
-    read-held (writeWord mem a v) a (holds-length (writeWord mem a v) mem a (write-length mem a v) ∙ h)
-    ∙ rw (write-held mem a h v) (load-store mem (wordBase a) v (held-lt mem a h) bound)
-
-pub read-byte-back : (mem : List ℕ) (a v : ℕ) → a < length mem → readByte (writeByte mem a v) a ≡ v % 256
-unfolding readByte writeByte
-read-byte-back mem a v h = getD-set-same mem a (v % 256) 0 h
-
--- ---- sizes: a memory of bytes stays one, and its words are below 2 ^ 32
-
-set-bytes : (mem : List ℕ) (i x : ℕ) → Bytes mem → Bytes (set mem i (x % 256))
-set-bytes mem i x bytes k = go (eqb k i) refl (ltb i (length mem)) refl
-  where
-    go : (same : Bool) → eqb k i ≡ same → (within : Bool) → ltb i (length mem) ≡ within
-        → getD (set mem i (x % 256)) k 0 < 256
-    go false other _ _ = rw (getD-set-other mem i k (x % 256) 0 (eqb-false k i other)) (bytes k)
-    go true same false out = rw (set-out mem i (x % 256) (ltb-false i (length mem) out)) (bytes k)
-    go true same true within =
-        rw (eqb-true k i same, getD-set-same mem i (x % 256) 0 (ltb-true i (length mem) within)) (omega arith)
-
-pub write-bytes : (mem : List ℕ) (a v : ℕ) → Bytes mem → Bytes (writeWord mem a v)
-unfolding writeWord
-write-bytes mem a v bytes = go (holdsWord mem a)
-  where
-    go : (b : Bool) → Bytes (pick b (storeWord mem (wordBase a) v) mem)
-    go true = search set-bytes
-    go false = bytes
-
-pub write-byte-bytes : (mem : List ℕ) (a v : ℕ) → Bytes mem → Bytes (writeByte mem a v)
-unfolding writeByte
-write-byte-bytes = set-bytes
-
-pub read-lt : (mem : List ℕ) (a : ℕ) → Bytes mem → readWord mem a < 2 ^ 32
-unfolding readWord
-read-lt mem a bytes = go (holdsWord mem a)
-  where
-    go : (b : Bool) → pick b (loadWord mem (wordBase a)) 0 < 2 ^ 32
-    go true =
-        omega (
-          arith,
-          bytes (wordBase a),
-          bytes (wordBase a + 1),
-          bytes (wordBase a + 2),
-          bytes (wordBase a + 3),
-        )
-    go false = lit< tt
-
-pub read-byte-lt : (mem : List ℕ) (a : ℕ) → Bytes mem → readByte mem a < 256
-unfolding readByte
-read-byte-lt mem a bytes = bytes a
+  pub word-at-other-byte : wordAt (writeByte m a v) b ≡ wordAt m b
+  unfolding wordAt
+  word-at-other-byte = rw (bytes.read-other-byte (m .bytes) (place (m .board) a) (place (m .board) b) v n)

@@ -1,3 +1,4 @@
+pub mod ByteLaws
 pub mod Laws
 pub mod Lanes
 pub mod Fetches

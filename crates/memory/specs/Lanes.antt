@@ -4,7 +4,7 @@ use mathlib.Core.Path.{_≡_}
 use mathlib.Core.List.{List}
 use lib.ListN.{length, getD}
 use Rattle.bits.specs.Bits.{field}
-use Rattle.memory.specs.Memory.{readWord, writeWord, readByte, writeByte}
+use Rattle.memory.specs.Memory.{Memory, place, limit, readWord, writeWord, readByte, writeByte}
 
 -- byte k of a word, the lowest first
 abbrev pub lane : ℕ → ℕ → ℕ
@@ -14,18 +14,18 @@ lane word k = field word (8 * k) 8
 abbrev pub Bytes : List ℕ → Type 0
 Bytes mem = (k : ℕ) → getD mem k 0 < 256
 
--- of an address a inside a memory of whole words
-pub record LanesAt (mem : List ℕ) (a : ℕ) : Type 0 where
+-- of an address a that answers, in a memory of whole words
+pub record LanesAt (m : Memory) (a : ℕ) : Type 0 where
   -- the byte at a is byte a mod 4 of the word at a
-  pub read : readByte mem a ≡ lane (readWord mem a) (a % 4)
+  pub read : readByte m a ≡ lane (readWord m a) (a % 4)
   -- after a word is written there, the byte at each of its four addresses is that byte of the value
-  pub written : (b v : ℕ) → a / 4 ≡ b / 4 → v < 2 ^ 32 → readByte (writeWord mem a v) b ≡ lane v (b % 4)
+  pub written : (b v : ℕ) → place (m .board) a / 4 ≡ place (m .board) b / 4 → v < 2 ^ 32 → readByte (writeWord m a v) b ≡ lane v (b % 4)
   -- and no byte of another word is changed
-  pub unwritten : (b v : ℕ) → (a / 4 ≡ b / 4 → ⊥) → readByte (writeWord mem a v) b ≡ readByte mem b
+  pub unwritten : (b v : ℕ) → (place (m .board) a / 4 ≡ place (m .board) b / 4 → ⊥) → readByte (writeWord m a v) b ≡ readByte m b
   -- a stored byte, the low one of the value, changes that byte of the word
-  pub stored : (v : ℕ) → lane (readWord (writeByte mem a v) a) (a % 4) ≡ lane v 0
+  pub stored : (v : ℕ) → lane (readWord (writeByte m a v) a) (a % 4) ≡ lane v 0
   -- and no other, of this word or of another
-  pub kept : (b v : ℕ) → b < length mem → (a ≡ b → ⊥) → lane (readWord (writeByte mem a v) b) (b % 4) ≡ lane (readWord mem b) (b % 4)
+  pub kept : (b v : ℕ) → b < limit (m .board) → (place (m .board) a ≡ place (m .board) b → ⊥) → lane (readWord (writeByte m a v) b) (b % 4) ≡ lane (readWord m b) (b % 4)
 
 abbrev pub Lanes : Type 0
-Lanes = (mem : List ℕ) (a : ℕ) → Bytes mem → length mem % 4 ≡ 0 → a < length mem → LanesAt mem a
+Lanes = (m : Memory) (a : ℕ) → Bytes (m .bytes) → length (m .bytes) ≡ m .board .size → length (m .bytes) % 4 ≡ 0 → a < limit (m .board) → LanesAt m a

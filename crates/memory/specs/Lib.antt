@@ -1,3 +1,4 @@
+pub mod Bytes
 pub mod Memory
 pub mod Lanes
 pub mod Fetches

@@ -1,48 +1,41 @@
--- A memory of bytes, read and written as little-endian words and as bytes. An address outside reads as 0 or blank, and
--- a write there changes nothing, so that each function is total.
-use Prim.Native.Nat.{ℕ, _+_, _*_, _/_, _%_}
-use mathlib.Core.Bool.{Bool}
+-- Memory as a board answers: what is fetched, read and written at an address.
+use Prim.Native.Nat.{ℕ}
 use mathlib.Core.List.{List}
 use lib.Dec.{ltb}
-use lib.ListN.{length, getD, set}
 use Rattle.bits.specs.Choice.{pick}
+use Rattle.memory.specs.declared.Board.{Board}
 use Rattle.memory.specs.declared.Fetched.{Fetched}
 use Rattle.memory.specs.declared.Fetched.the-variants.{Word, Blank}
+use Rattle.memory.specs.Bytes.{wordIn, withWord, byteIn, withByte}
 
--- where the word of an address begins: words ignore the low two bits
-abbrev pub wordBase : ℕ → ℕ
-wordBase a = a / 4 * 4
+-- lent bytes on a board
+pub record Memory : Type 0 where
+  pub board : Board
+  pub bytes : List ℕ
 
--- the whole word of an address is inside
-unfoldable pub holdsWord : List ℕ → ℕ → Bool
-holdsWord mem a = ltb (wordBase a + 3) (length mem)
+abbrev pub memoryOf : Board → List ℕ → Memory
+memoryOf board bytes = record { board = board; bytes = bytes }
 
--- four bytes as a word, the first the lowest
-abbrev pub little : ℕ → ℕ → ℕ → ℕ → ℕ
-little b0 b1 b2 b3 = b0 + b1 * 256 + b2 * 65536 + b3 * 16777216
+-- where an address lies in the lent bytes
+unfoldable pub place : Board → ℕ → ℕ
+place board a = a
 
--- the word whose bytes begin at a place
-abbrev pub loadWord : List ℕ → ℕ → ℕ
-loadWord mem at = little (getD mem at 0) (getD mem (at + 1) 0) (getD mem (at + 2) 0) (getD mem (at + 3) 0)
+-- the first address at which nothing answers
+unfoldable pub limit : Board → ℕ
+limit board = board .size
 
--- the four bytes of a value, stored from a place on
-abbrev pub storeWord : List ℕ → ℕ → ℕ → List ℕ
-storeWord mem at v =
-    set (set (set (set mem at (v % 256)) (at + 1) (v / 256 % 256)) (at + 2) (v / 65536 % 256)) (at + 3) (v / 16777216 % 256)
+abbrev pub readWord : Memory → ℕ → ℕ
+readWord m a = wordIn (m .bytes) (place (m .board) a)
 
-unfoldable pub readWord : List ℕ → ℕ → ℕ
-readWord mem a = pick (holdsWord mem a) (loadWord mem (wordBase a)) 0
+abbrev pub writeWord : Memory → ℕ → ℕ → Memory
+writeWord m a v = memoryOf (m .board) (withWord (m .bytes) (place (m .board) a) v)
 
-unfoldable pub writeWord : List ℕ → ℕ → ℕ → List ℕ
-writeWord mem a v = pick (holdsWord mem a) (storeWord mem (wordBase a) v) mem
+abbrev pub readByte : Memory → ℕ → ℕ
+readByte m a = byteIn (m .bytes) (place (m .board) a)
 
-unfoldable pub readByte : List ℕ → ℕ → ℕ
-readByte mem a = getD mem a 0
-
--- a stored byte is the low one
-unfoldable pub writeByte : List ℕ → ℕ → ℕ → List ℕ
-writeByte mem a v = set mem a (v % 256)
+abbrev pub writeByte : Memory → ℕ → ℕ → Memory
+writeByte m a v = memoryOf (m .board) (withByte (m .bytes) (place (m .board) a) v)
 
 -- the word that a fetch at a gives: blank outside memory
-unfoldable pub wordAt : List ℕ → ℕ → Fetched
-wordAt mem a = pick (holdsWord mem a) (Word (readWord mem a)) Blank
+unfoldable pub wordAt : Memory → ℕ → Fetched
+wordAt m a = pick (ltb a (limit (m .board))) (Word (readWord m a)) Blank

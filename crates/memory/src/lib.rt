@@ -1,8 +1,14 @@
-// Memory as words and bytes, over a lent slice. Every address is taken: one outside reads as 0 or blank, and a write there does nothing.
+// Memory as a board answers: what is fetched, read and written at an address, over a lent slice. Every address is taken: one
+// outside reads as 0 or blank, and a write there does nothing.
 ghost use mathlib.Core.Path.{_≡_};
-ghost use Prim.Native.Nat.{_+_, _<_};
-ghost use lib.ListN.{length, set};
-ghost use Rattle.memory.specs.Memory.{little, wordBase, holdsWord, loadWord, storeWord, readWord, writeWord, readByte, writeByte, wordAt};
+ghost use Rattle.memory.specs.Memory.{memoryOf, place, limit, readWord, writeWord, readByte, writeByte, wordAt};
+
+pub mod bytes;
+
+// What the memory is built into: its size in bytes.
+pub struct Board {
+    pub size: u32,
+}
 
 // What a fetch finds.
 pub enum Fetched {
@@ -10,107 +16,51 @@ pub enum Fetched {
     Blank,
 }
 
-// A byte, zero-extended.
-fn wide(x: u8) -> u32
-    ensures { λ r. ⌜ r ≡ x ⌝ }
+// Where an address lies in the lent bytes.
+pub fn place(board: Board, address: u32) -> u32
+    ensures { λ r. ⌜ r ≡ place board address ⌝ }
 {
-    x as u32
+    address
 }
 
-// Four bytes as a word, the first the lowest.
-fn little(b0: u8, b1: u8, b2: u8, b3: u8) -> u32
-    ensures { λ r. ⌜ r ≡ little b0 b1 b2 b3 ⌝ }
+// The first address at which nothing answers.
+pub fn limit(board: Board) -> u32
+    ensures { λ r. ⌜ r ≡ limit board ⌝ }
 {
-    b0 as u32 + b1 as u32 * 256 + b2 as u32 * 65536 + b3 as u32 * 16777216
+    board.size
 }
 
-// Where the word of an address begins.
-fn word_base(address: u32) -> usize
-    ensures { λ r. ⌜ r ≡ wordBase address ⌝ }
+pub fn read_word(memory: &[u8], board: Board, address: u32) -> u32
+    ensures { λ r. ⌜ r ≡ readWord (memoryOf board (now (memory .entry))) address ⌝ }
 {
-    (address / 4 * 4) as usize
+    bytes::word_in(memory, place(board, address))
 }
 
-// The one bounds test of a word.
-fn holds_word(memory: &[u8], address: u32) -> bool
-    ensures { λ r. ⌜ r ≡ holdsWord (now (memory .entry)) address ⌝ }
+pub fn write_word(memory: &mut [u8], board: Board, address: u32, value: u32)
+    ensures { λ _. ⌜ memoryOf board (now (memory .exit)) ≡ writeWord (memoryOf board (now (memory .entry))) address value ⌝ }
 {
-    word_base(address) + 3 < memory.len()
+    bytes::put_word(memory, place(board, address), value);
 }
 
-// The word at a base inside: four loads that compile into one.
-fn load_word(memory: &[u8], at: usize) -> u32
-    requires { ⌜ at + 3 < length (now memory) ⌝ }
-    ensures { λ r. ⌜ r ≡ loadWord (now (memory .entry)) at ⌝ }
+pub fn read_byte(memory: &[u8], board: Board, address: u32) -> u32
+    ensures { λ r. ⌜ r ≡ readByte (memoryOf board (now (memory .entry))) address ⌝ }
 {
-    little(memory[at], memory[at + 1], memory[at + 2], memory[at + 3])
+    bytes::byte_in(memory, place(board, address))
 }
 
-// A word stored at a base inside: four stores that compile into one.
-fn store_word(memory: &mut [u8], at: usize, value: u32)
-    requires { ⌜ at + 3 < length (now memory) ⌝ }
-    ensures { λ _. ⌜ now (memory .exit) ≡ storeWord (now (memory .entry)) at value ⌝ }
+pub fn write_byte(memory: &mut [u8], board: Board, address: u32, value: u32)
+    ensures { λ _. ⌜ memoryOf board (now (memory .exit)) ≡ writeByte (memoryOf board (now (memory .entry))) address value ⌝ }
 {
-    memory[at] = (value % 256) as u8;
-    memory[at + 1] = (value / 256 % 256) as u8;
-    memory[at + 2] = (value / 65536 % 256) as u8;
-    memory[at + 3] = (value / 16777216 % 256) as u8;
-}
-
-fn store_byte(memory: &mut [u8], at: usize, byte: u8)
-    requires { ⌜ at < length (now memory) ⌝ }
-    ensures { λ _. ⌜ now (memory .exit) ≡ set (now (memory .entry)) at byte ⌝ }
-{
-    memory[at] = byte;
-}
-
-// The whole word of an address; 0 outside.
-pub fn read_word(memory: &[u8], address: u32) -> u32
-    ensures { λ r. ⌜ r ≡ readWord (now (memory .entry)) address ⌝ }
-{
-    if holds_word(memory, address) {
-        load_word(memory, word_base(address))
-    } else {
-        0
-    }
-}
-
-pub fn write_word(memory: &mut [u8], address: u32, value: u32)
-    ensures { λ _. ⌜ now (memory .exit) ≡ writeWord (now (memory .entry)) address value ⌝ }
-{
-    if holds_word(memory, address) {
-        store_word(memory, word_base(address), value);
-    }
+    bytes::put_byte(memory, place(board, address), value);
 }
 
 // The word that a fetch gives; blank outside.
-pub fn fetch(memory: &[u8], address: u32) -> Fetched
-    ensures { λ r. ⌜ r ≡ wordAt (now (memory .entry)) address ⌝ }
+pub fn fetch(memory: &[u8], board: Board, address: u32) -> Fetched
+    ensures { λ r. ⌜ r ≡ wordAt (memoryOf board (now (memory .entry))) address ⌝ }
 {
-    if holds_word(memory, address) {
-        Fetched::Word(read_word(memory, address))
+    if address < limit(board) {
+        Fetched::Word(read_word(memory, board, address))
     } else {
         Fetched::Blank
-    }
-}
-
-pub fn read_byte(memory: &[u8], address: u32) -> u32
-    ensures { λ r. ⌜ r ≡ readByte (now (memory .entry)) address ⌝ }
-{
-    let at = address as usize;
-    if at < memory.len() {
-        wide(memory[at])
-    } else {
-        0
-    }
-}
-
-// The low byte of a value, stored.
-pub fn write_byte(memory: &mut [u8], address: u32, value: u32)
-    ensures { λ _. ⌜ now (memory .exit) ≡ writeByte (now (memory .entry)) address value ⌝ }
-{
-    let at = address as usize;
-    if at < memory.len() {
-        store_byte(memory, at, (value % 256) as u8);
     }
 }

@@ -1,9 +1,9 @@
 -- Term 3, proved: an induction over the list of calls, with the core's position as its invariant.
 -- Assumes nothing.
-use Prim.Native.Nat.{ℕ, zero, suc, pred, _+_, _-_, _%_, _^_, _≤_, _<_}
+use Prim.Native.Nat.{ℕ, zero, suc, pred, _+_, _-_, _%_, _≤_, _<_}
 use mathlib.Core.Path.{_≡_, refl, sym, ap, subst, _∙_}
 use mathlib.Core.List.{List, [], _∷_}
-use mathlib.Core.Bool.{Bool, true, false, not, _||_, _&&_}
+use mathlib.Core.Bool.{Bool, true, false, not, _||_, _&&_, false≢true}
 use mathlib.Core.Logic.{_⊎_, inl, inr, ⊎-elim}
 use native.Mathlib.Omega.{arith}
 use native.Mathlib.Decide.{decLt}
@@ -19,28 +19,36 @@ use Rattle.plain.specs.Trace.{trace, stopMet, duration, durations, Does}
 use Rattle.plain.proofs.Accepted as plain-start
 use Rattle.steps.specs.declared.Phase.{Phase}
 use Rattle.steps.specs.declared.Phase.the-variants.{Step1, Refill1, Refill2, Later}
-use Rattle.pipeline.specs.Machine.{Machine}
-use Rattle.pipeline.specs.Cycle.{cycle}
-use Rattle.pipeline.specs.Numbers.{stopFound, heldAway, badPhase, mostCycles, bad, refusal}
-use Rattle.pipeline.specs.Run.{start, holding, Ran, ran, oneMore, runFrom, repeated, answered, run}
+use Rattle.cycle.specs.Machine.{Machine, mostCycles, counters, mostBytes}
+use Rattle.cycle.specs.Cycle.{cycle}
+use Rattle.cycle.specs.StopFound.{isStep1, stopFound}
+use Rattle.cycle.proofs.StopFound.{no-stop}
+use Rattle.stops.specs.Stops.{Due, no-word, skipped, executes, due}
+use Rattle.stops.proofs.BrokenRules.{rule-alike}
+use Rattle.refusals.specs.Numbers.{stateLater, badWithin, badStep, heldAway, badPhase, bad, refusal}
+use Rattle.pipeline.specs.Calls.{start, unless, run}
+use Rattle.runs.specs.Run.{holding, Ran, ran, oneMore, runFrom}
 use Rattle.pipeline.specs.Term3.{fresh, plainFresh, Begins, sums, Stops, Call, lend, call, Reply, reply, replyOf, Accepted, Refused, Calls, no-calls, accepted, refused, Answers, other-length, too-many, too-far, repeats, stops, spends, AllAnswer, none, more, Never, never-none, never-more}
-use Rattle.pipeline.specs.Term3.{reach, boundary, Greatest, lead, Leaves, Further, Follows, Term3}
+use Rattle.pipeline.specs.Term3.{reach, Greatest, Leaves, Further, Follows, Term3}
+use Rattle.runs.specs.Boundary.{boundary, lead}
+use Rattle.pipeline.proofs.Calls.{ends-by}
 use Rattle.pipeline.proofs.Lengths.{reach-alike}
-use Rattle.pipeline.proofs.Flight.{away, Aloft, Flight}
-use Rattle.pipeline.proofs.PlainSteps.{duration-flight, flight, Stop, stop-met}
-use Rattle.pipeline.proofs.Position.{Pos, advance, beginning, plainBeginning, started, boundary-stop, sums-step, ranged, away-quiet}
+use Rattle.runs.proofs.Flight.{Aloft, Flight}
+use Rattle.runs.proofs.PlainSteps.{duration-flight, flight, Stop, stop-met}
+use Rattle.pipeline.proofs.Position.{Pos, advance, beginning, plainBeginning, started, sums-step, ranged}
+use Rattle.runs.proofs.PlainSteps.{boundary-stop}
 
 reach-stop : (m : Machine) (t : ℕ) → reach m t .control .stop ≡ m .control .stop
 unfolding reach cycle
 reach-stop m zero = refl
 reach-stop m (suc t) = reach-stop m t
 
-reach-length : (m : Machine) (t : ℕ) → reach m t .control .length ≡ m .control .length
+reach-size : (m : Machine) (t : ℕ) → reach m t .control .board .size ≡ m .control .board .size
 unfolding reach cycle
-reach-length m zero = refl
-reach-length m (suc t) = reach-length m t
+reach-size m zero = refl
+reach-size m (suc t) = reach-size m t
 
-reach-cycles : (m : Machine) (t : ℕ) → m .control .cycles ≡ 0 → reach m t .control .cycles ≡ t
+reach-cycles : (m : Machine) (t : ℕ) → m .control .counts .cycles ≡ 0 → reach m t .control .counts .cycles ≡ t
 unfolding reach cycle
 reach-cycles m zero e = e
 reach-cycles m (suc t) e = ap suc (reach-cycles m t e)
@@ -54,15 +62,12 @@ none-held Refill1 = refl
 none-held Refill2 = refl
 none-held (Later k) = refl
 
-away-step1 : (ph : Phase) → away ph ≡ true → ph ≡ Step1 → ⊥
-away-step1 Step1 e h = let z : _≡_ {A = ℕ} 0 1 = cc in omega arith
-away-step1 Refill1 e h = let z : _≡_ {A = ℕ} 0 1 = cc in omega arith
-away-step1 Refill2 e h = let z : _≡_ {A = ℕ} 0 1 = cc in omega arith
-away-step1 (Later k) e h = let z : _≡_ {A = ℕ} 0 1 = cc in omega arith
+off-step1 : (ph : Phase) → isStep1 ph ≡ false → ph ≡ Step1 → ⊥
+off-step1 ph e h = false≢true (sym e ∙ ap isStep1 h)
 
 -- the cycles rise by those that a run says it used
 abbrev Rises : Machine → Ran → Type 0
-Rises m r = r .machine .control .cycles ≡ m .control .cycles + r .used
+Rises m r = r .machine .control .counts .cycles ≡ m .control .counts .cycles + r .used
 
 rises-from : (b : ℕ) (m : Machine) → Rises m (runFrom b m)
 unfolding runFrom cycle
@@ -73,17 +78,16 @@ rises-from (suc b) m = go (stopFound m) (rises-from b (cycle m))
     go zero ih = omega (arith, ih)
     go (suc q) ih = omega arith
 
-rises-repeated : (q b : ℕ) (m : Machine) → Rises m (repeated q b m)
-rises-repeated zero b m = rises-from b m
-rises-repeated (suc q) b m = omega arith
-
-rises-answered : (z b : ℕ) (m : Machine) → Rises m (answered z b m)
-rises-answered zero b m = rises-repeated (m .control .stop) b m
-rises-answered (suc z) b m = omega arith
+rises-unless : (q : ℕ) (m : Machine) (r : Ran) → Rises m r → Rises m (unless q m r)
+rises-unless q m r h = go (eqb q 0)
+  where
+    go : (b : Bool) → Rises m (pick b r (ran q 0 m))
+    go true = h
+    go false = omega arith
 
 rises : (n b : ℕ) (m : Machine) → Rises m (run n b m)
 unfolding run
-rises n b m = rises-answered (refusal n b m) b m
+rises n b m = rises-unless (refusal n b m) m _ (rises-unless (m .control .stop) m _ (rises-from b m))
 
 -- a stop that is met is one that a record can hold
 is-stop : (q : ℕ) → Stop q → isStop q ≡ true
@@ -103,7 +107,7 @@ accepted-or-refused n t c = go (eqb (length (c .memory)) n) refl (decLt 1000000 
     go true e (no s) (yes f) = inr (λ a. omega (arith, a .near))
     go true e (no s) (no f) = inl (record { lent = eqb-true _ _ e; small = omega arith; near = omega arith })
 
-module _ (p : plain.Machine) (m₀ : Machine) (r₀ : p .plain .a < 2 ^ 26) (s₀ : p .plain .length ≤ 65536) where
+module _ (p : plain.Machine) (m₀ : Machine) (r₀ : p .plain .a < counters) (s₀ : p .plain .board .size ≤ mostBytes) where
   -- a run that used its budget, and one that found a stop
   record Spent (t b : ℕ) (r : Ran) : Type 0 where
     to : ℕ
@@ -130,7 +134,7 @@ module _ (p : plain.Machine) (m₀ : Machine) (r₀ : p .plain .a < 2 ^ 26) (s�
           → (n ≡ 0) × (stopMet (trace p (c .k)) ≡ suc q)
       go zero u f = (refl, sym (boundary-stop (trace p (c .k)) (c .k) (sums p (c .k)) (ranged p m₀ r₀ s₀ (c .k))) ∙ rw f at e)
       go (suc n) u f =
-          absurd (let z : stopFound (reach m₀ t) ≡ 0 = unfold stopFound in away-quiet (reach m₀ t .control .phase) _ (f .0 .off) in omega arith)
+          absurd (let z : stopFound (reach m₀ t) ≡ 0 = no-stop (reach m₀ t) (f .0 .off) in omega arith)
 
   running : (b : ℕ) {t : ℕ} → Pos p m₀ r₀ s₀ t → Spent t b (runFrom b (reach m₀ t)) ⊎ Halted t b (runFrom b (reach m₀ t))
   unfolding runFrom reach
@@ -210,39 +214,44 @@ module _ (p : plain.Machine) (m₀ : Machine) (r₀ : p .plain .a < 2 ^ 26) (s�
   stop-here : {t q : ℕ} → Here t q → isStop q ≡ true
   stop-here {t} {q} h = ⊎-elim (λ e. rw e) (λ e. is-stop q (rw (e .1) at (stop-met (trace p (h .pos .k))))) (h .stop)
 
-  module _ (n : ℕ) (good : badLength n ≡ false) (same-length : m₀ .control .length ≡ n) (no-cycles : m₀ .control .cycles ≡ 0) (no-stop : m₀ .control .stop ≡ 0) where
+  module _ (n : ℕ) (good : badLength n ≡ false) (same-length : m₀ .control .board .size ≡ n) (no-cycles : m₀ .control .counts .cycles ≡ 0) (no-stop : m₀ .control .stop ≡ 0) where
     abbrev Reaches : Call → ℕ → ℕ → Ran → ℕ → Type 0
     Reaches c t q r t′ = (q′ : ℕ) × Answers p n t q c (replyOf r) t′ q′ × (r .machine ≡ holding (reach m₀ t′) q′) × Here t′ q′
 
     abbrev Result : Call → ℕ → ℕ → Ran → Type 0
     Result c t q r = (t′ : ℕ) × (t′ ≡ t + r .used) × Reaches c t q r t′
 
-    -- 11 doesn't come up
-    sound : {t q : ℕ} → Here t q → bad (holding (reach m₀ t) q .registers) (holding (reach m₀ t) q .control) ≡ false
+    -- 11 doesn't come up, whatever is lent
+    sound : {t q : ℕ} → Here t q → (mem : List ℕ) → bad (lend (holding (reach m₀ t) q) mem) ≡ false
     unfolding bad
-    sound {t} {q} h =
+    sound {t} {q} h mem =
         let s = h .pos .sound in
         let m = reach m₀ t in
-        let length-good : badLength (m .control .length) ≡ false = rw (reach-length m₀ t ∙ same-length) good in
-        let fine : badPhase (m .control .phase) (m .registers) (holding m q .control) ≡ false = phase-fine (m .control .phase) (s .fine) in
+        let length-good : badLength (m .control .board .size) ≡ false = rw (reach-size m₀ t ∙ same-length) good in
+        let fine = phase-fine (m .control .phase) (s .fine) in
         rw (
           fine,
           length-good,
-          eq-eqb (m .control .pc % 4) 0 (s .aligned),
-          lt-ltb (m .control .pc) (2 ^ 26) (s .range),
+          eq-eqb (m .control .pipe .pc % 4) 0 (s .aligned),
+          lt-ltb (m .control .pipe .pc) (counters) (s .range),
           le-ltb 15 (m .control .flags) (omega (arith, s .flags)),
           reach-cycles m₀ t no-cycles,
           le-ltb mostCycles t (h .small),
-          le-ltb t (m .control .retired) (rw (reach-cycles m₀ t no-cycles) at (s .counts)),
+          le-ltb t (m .control .counts .retired) (rw (reach-cycles m₀ t no-cycles) at (s .counts)),
           stop-here h,
           held-here h,
         )
       where
-        phase-fine : (ph : Phase) → badPhase ph (reach m₀ t .registers) (reach m₀ t .control) ≡ false → badPhase ph (reach m₀ t .registers) (holding (reach m₀ t) q .control) ≡ false
+        step-fine : (k : ℕ) (d : Due) → badStep d k (reach m₀ t) ≡ false → badStep d k (lend (holding (reach m₀ t) q) mem) ≡ false
+        step-fine k no-word e = e
+        step-fine k skipped e = e
+        step-fine k (executes i) e = unfold badWithin in rw (rule-alike i (stateLater (lend (holding (reach m₀ t) q) mem)) (stateLater (reach m₀ t))) e
+
+        phase-fine : (ph : Phase) → badPhase ph (reach m₀ t) ≡ false → badPhase ph (lend (holding (reach m₀ t) q) mem) ≡ false
         phase-fine Step1 e = refl
         phase-fine Refill1 e = refl
         phase-fine Refill2 e = refl
-        phase-fine (Later k) e = e
+        phase-fine (Later k) e = step-fine k (due (reach m₀ t .control .pipe .ix) (reach m₀ t .control .flags)) e
 
     ran-on : (c : Call) (t : ℕ) {r : Ran} → Accepted n t c → Spent t (c .budget) r ⊎ Halted t (c .budget) r → Result c t 0 r
     ran-on c t a (inl x) =
@@ -270,9 +279,11 @@ module _ (p : plain.Machine) (m₀ : Machine) (r₀ : p .plain .a < 2 ^ 26) (s�
           ),
         )
 
-    accept : (c : Call) (t q : ℕ) → Accepted n t c → Here t q → Result c t q (repeated q (c .budget) (holding (reach m₀ t) q))
+    accept : (c : Call) (t q : ℕ) → Accepted n t c → Here t q → Result c t q (unless q (holding (reach m₀ t) q) (runFrom (c .budget) (holding (reach m₀ t) q)))
     accept c t zero a h = rw (holding-none (reach m₀ t) (reach-stop m₀ t ∙ no-stop)) (ran-on c t a (running (c .budget) (h .pos)))
-    accept c t (suc q) a h = (t, omega arith, (suc q, repeats a (λ e. omega arith), refl, h))
+    accept c t (suc q) a h =
+        subst (Result c t (suc q)) (ends-by (holding (reach m₀ t) (suc q)) _ (suc q) (λ e. omega arith))
+        (t, omega arith, (suc q, repeats a (λ e. omega arith), refl, h))
 
     -- what a run refuses with, at total t
     abbrev number : Call → ℕ → ℕ
@@ -280,7 +291,7 @@ module _ (p : plain.Machine) (m₀ : Machine) (r₀ : p .plain .a < 2 ^ 26) (s�
 
     refuses : (c : Call) (t q : ℕ) → Here t q → refusal (length (c .memory)) (c .budget) (lend (holding (reach m₀ t) q) (c .memory)) ≡ number c t
     unfolding refusal
-    refuses c t q h = rw (sound h, reach-length m₀ t ∙ same-length, reach-cycles m₀ t no-cycles)
+    refuses c t q h = rw (sound h (c .memory), reach-size m₀ t ∙ same-length, reach-cycles m₀ t no-cycles)
 
     -- a call is accepted, or refused with a number that it answers
     abbrev Fate : Call → ℕ → ℕ → ℕ → Type 0
@@ -308,7 +319,7 @@ module _ (p : plain.Machine) (m₀ : Machine) (r₀ : p .plain .a < 2 ^ 26) (s�
 
     -- an accepted call, lent the memory
     runs : (c : Call) (t q : ℕ) → number c t ≡ 0 → c .memory ≡ reach m₀ t .memory → Here t q
-        → repeated q (c .budget) (holding (reach m₀ t) q) ≡ call c (holding (reach m₀ t) q)
+        → unless q (holding (reach m₀ t) q) (runFrom (c .budget) (holding (reach m₀ t) q)) ≡ call c (holding (reach m₀ t) q)
     unfolding run
     runs c t q z e h = rw (refuses c t q h, z, e)
 
@@ -334,7 +345,7 @@ module _ (p : plain.Machine) (m₀ : Machine) (r₀ : p .plain .a < 2 ^ 26) (s�
         subst (Back c t q) (sym i)
         (⊎-elim
         (λ f. absurd (x (f .1)))
-        (λ f. let (z, e, a) = f .1 in record { z = z; answers = a; is = rw (refuses c t q h, e) })
+        (λ f. let (z, e, a) = f .1 in record { z = z; answers = a; is = rw (refuses c t q h, e, ne-eqb (suc z) 0 (λ y. omega arith)) })
         (fate c t q))
 
     all : {m m′ : Machine} {t t′ : ℕ} {cs : List Call} {rs : List Reply} (q : ℕ) → At m t q → Calls n m t cs rs m′ t′
@@ -384,7 +395,7 @@ module _ (p : plain.Machine) (m₀ : Machine) (r₀ : p .plain .a < 2 ^ 26) (s�
         go (yes l) = absurd (omega (arith, before c l))
         go (no l) = sums-le j (omega arith)
 
-    boundary-retired : (m : plain.Machine) (k t : ℕ) → boundary m k t .control .retired ≡ k
+    boundary-retired : (m : plain.Machine) (k t : ℕ) → boundary m k t .control .counts .retired ≡ k
     unfolding boundary
     boundary-retired m k t = refl
 
@@ -412,11 +423,11 @@ module _ (p : plain.Machine) (m₀ : Machine) (r₀ : p .plain .a < 2 ^ 26) (s�
         go j d l (yes h) = absurd (omega (arith, sums-lt j d h))
         go j d l (no h) = omega arith
 
-    greatest : {t : ℕ} (c : Pos p m₀ r₀ s₀ t) → Greatest p t (reach m₀ t .control .retired)
+    greatest : {t : ℕ} (c : Pos p m₀ r₀ s₀ t) → Greatest p t (reach m₀ t .control .counts .retired)
     greatest {t} c =
         ⊎-elim (λ v. rw (v .2, boundary-retired) (greatest-at c (v .1))) (λ v. rw (v .1 .retired) (greatest-off c (v .0))) (view c)
 
-    counted : {t : ℕ} (c : Pos p m₀ r₀ s₀ t) → t ≡ durations p (reach m₀ t .control .retired) + lead (reach m₀ t)
+    counted : {t : ℕ} (c : Pos p m₀ r₀ s₀ t) → t ≡ durations p (reach m₀ t .control .counts .retired) + lead (reach m₀ t)
     counted {t} c =
         ⊎-elim
         (λ v. v .1 ∙ rw (v .2, boundary-lead, boundary-retired) (unfold sums in omega arith))
@@ -431,17 +442,17 @@ module _ (p : plain.Machine) (m₀ : Machine) (r₀ : p .plain .a < 2 ^ 26) (s�
     leaves {t} {q} h = record {
       is = refl;
       lengths = reach-alike m₀ t;
-      good = sound h;
+      good = sound h (reach m₀ t .memory);
       cycles = reach-cycles m₀ t no-cycles;
       stop = refl;
       retired = greatest (h .pos);
-      counted = counted (h .pos) ∙ ap (λ x. durations p (reach m₀ t .control .retired) + x) (sym (lead-held (reach m₀ t) q));
+      counted = counted (h .pos) ∙ ap (λ x. durations p (reach m₀ t .control .counts .retired) + x) (sym (lead-held (reach m₀ t) q));
       distance = (h .pos .n, record { k = h .pos .k; does = h .pos .does; sum = h .pos .total; least = least (h .pos); bound = h .pos .bound });
       there = λ k d e. ⊎-elim
           (λ v. let i : h .pos .k ≡ k = sums-inj (h .pos .does) d (omega (arith, v .1)) in ap (λ s. holding s q) (v .2 ∙ ap (λ j. boundary (trace p j) j t) i))
           (λ v. absurd (omega (arith, v .0, h .pos .total, least (h .pos) k (omega arith))))
           (view (h .pos));
-      only = λ e. ⊎-elim (λ v. (h .pos .k, h .pos .does, sym (v .1))) (λ v. absurd (away-step1 (reach m₀ t .control .phase) (v .1 .off) e)) (view (h .pos));
+      only = λ e. ⊎-elim (λ v. (h .pos .k, h .pos .does, sym (v .1))) (λ v. absurd (off-step1 (reach m₀ t .control .phase) (v .1 .off) e)) (view (h .pos));
     }
 
     left : {m : Machine} {t q : ℕ} → At m t q → Leaves p m₀ m t q
@@ -468,7 +479,7 @@ module _ (g : List ℕ) (flags entry : ℕ) (mem : List ℕ) where
     refused = λ x. (rw (ne-eqb (startAnswer (length mem) entry flags) 0 x), rw (ne-eqb (startAnswer (length mem) entry flags) 0 x));
   }
 
-  begins : plain-start.Accepted (length mem) entry flags → (r : plainBeginning g flags entry mem .plain .a < 2 ^ 26) (s : plainBeginning g flags entry mem .plain .length ≤ 65536)
+  begins : plain-start.Accepted (length mem) entry flags → (r : plainBeginning g flags entry mem .plain .a < counters) (s : plainBeginning g flags entry mem .plain .board .size ≤ mostBytes)
       → Here (plainBeginning g flags entry mem) (beginning g flags entry mem) r s 0 0
   unfolding reach trace sums durations
   begins a r s = record {
@@ -497,8 +508,8 @@ module _ (g : List ℕ) (flags entry : ℕ) (mem : List ℕ) where
       let a = plain-start.given (length mem) entry flags e in
       let p = plainBeginning g flags entry mem in
       let m₀ = beginning g flags entry mem in
-      let r : p .plain .a < 2 ^ 26 = omega (arith, a .placed .inside, a .sized .most) in
-      let s : p .plain .length ≤ 65536 = a .sized .most in
+      let r : p .plain .a < counters = omega (arith, a .placed .inside, a .sized .most) in
+      let s : p .plain .board .size ≤ mostBytes = a .sized .most in
       let l : badLength (length mem) ≡ false = plain-start.length-good (length mem) (a .sized) in
       let (q, answers, h) = all p m₀ r s (length mem) l refl refl refl 0 (refl, begins a r s) calls in
       record {

@@ -1,38 +1,30 @@
 -- Where the core stands after t cycles: n cycles before the boundary after k instructions.
 -- Assumes nothing.
-use Prim.Native.Nat.{ℕ, zero, suc, pred, _+_, _^_, _≤_, _<_}
+use Prim.Native.Nat.{ℕ, zero, suc, pred, _+_, _≤_, _<_}
 use mathlib.Core.Path.{_≡_, refl, sym, _∙_}
 use mathlib.Core.List.{List}
-use mathlib.Core.Bool.{true}
 use mathlib.Core.Logic.{⊎-elim}
 use native.Mathlib.Omega.{arith}
 use native.Mathlib.Nat.{eq-or-lt-of-le, le-of-suc-le-suc}
 use lib.ListN.{length}
-use Rattle.datapath.specs.Counter.{ahead}
 use Rattle.plain.specs.Machine as plain
 use Rattle.plain.specs.Trace.{trace, stopMet, duration, durations, Does}
-use Rattle.steps.specs.declared.Phase.{Phase}
-use Rattle.steps.specs.declared.Phase.the-variants.{Step1, Refill1, Refill2, Later}
-use Rattle.pipeline.specs.Machine.{Machine, machine}
-use Rattle.pipeline.specs.Cycle.{cycle, ownOf}
-use Rattle.pipeline.specs.Numbers.{atStep1, stopFound}
-use Rattle.pipeline.specs.Run.{freshControl}
-use Rattle.pipeline.specs.Term3.{sums, reach, boundary, lead}
-use Rattle.pipeline.proofs.Flight.{away, Flight, climb, turn44}
-use Rattle.pipeline.proofs.Instruction.{behind-ahead}
-use Rattle.pipeline.proofs.PlainSteps.{stop-is, flight, duration-flight, flight-short, instruction, step-range, step-length}
+use Rattle.cycle.specs.Machine.{Machine, machine, counters, mostBytes}
+use Rattle.cycle.specs.Cycle.{cycle, ownOf}
+use Rattle.cycle.specs.StopFound.{stopFound}
+use Rattle.cycle.specs.Fresh.{freshControl}
+use Rattle.pipeline.specs.Term3.{sums, reach}
+use Rattle.runs.specs.Boundary.{boundary, lead}
+use Rattle.runs.proofs.Flight.{Flight, climb, climb-add, turn44}
+use Rattle.runs.proofs.PlainSteps.{boundary-stop, flight, duration-flight, flight-short, instruction, step-range, step-board}
 use Rattle.pipeline.proofs.Sound.{Sound, cycle-sound}
-
-pub climb-add : (n t : ℕ) → climb n t ≡ t + n
-climb-add zero t = omega arith
-climb-add (suc n) t = omega (arith, climb-add n (suc t))
 
 -- what accepted starts hand back
 abbrev pub beginning : List ℕ → ℕ → ℕ → List ℕ → Machine
-beginning g flags entry mem = machine g (freshControl flags entry (length mem)) mem
+beginning g flags entry mem = machine g (freshControl flags entry (record { size = length mem })) mem
 
 abbrev pub plainBeginning : List ℕ → ℕ → ℕ → List ℕ → plain.Machine
-plainBeginning g flags entry mem = plain.machine (plain.plain g entry flags 0 (length mem)) mem
+plainBeginning g flags entry mem = plain.machine (plain.plain g entry flags 0 (record { size = length mem })) mem
 
 -- the start's two refills
 pub started : (g : List ℕ) (flags entry : ℕ) (mem : List ℕ)
@@ -41,31 +33,20 @@ unfolding cycle ownOf boundary lead
 started g flags entry mem =
     (record { off = refl; retired = refl; beyond = refl }, (record { off = refl; retired = refl; beyond = refl }, rw (turn44 entry)))
 
-pub away-quiet : (ph : Phase) (q : ℕ) → away ph ≡ true → atStep1 ph q ≡ 0
-away-quiet Step1 q e = cc
-away-quiet Refill1 q e = refl
-away-quiet Refill2 q e = refl
-away-quiet (Later k) q e = refl
-
--- on a boundary the core finds the stop that the plain machine meets
-pub boundary-stop : (p : plain.Machine) (k t : ℕ) → p .plain .a < 2 ^ 26 → stopFound (boundary p k t) ≡ stopMet p
-unfolding stopFound boundary
-boundary-stop p k t h = rw (behind-ahead (p .plain .a) h) (sym (stop-is p))
-
 pub sums-step : (p : plain.Machine) (k : ℕ) → sums p (suc k) ≡ sums p k + duration (trace p k)
 unfolding sums durations
 sums-step p k = omega arith
 
-module _ (p : plain.Machine) (m₀ : Machine) (range : p .plain .a < 2 ^ 26) (short : p .plain .length ≤ 65536) where
-  pub ranged : (k : ℕ) → trace p k .plain .a < 2 ^ 26
+module _ (p : plain.Machine) (m₀ : Machine) (range : p .plain .a < counters) (short : p .plain .board .size ≤ mostBytes) where
+  pub ranged : (k : ℕ) → trace p k .plain .a < counters
   unfolding trace
   ranged zero = range
   ranged (suc k) = step-range (trace p k) (ranged k)
 
-  shorted : (k : ℕ) → trace p k .plain .length ≤ 65536
+  shorted : (k : ℕ) → trace p k .plain .board .size ≤ mostBytes
   unfolding trace
   shorted zero = short
-  shorted (suc k) = omega (arith, step-length (trace p k), shorted k)
+  shorted (suc k) = rw (step-board (trace p k)) (shorted k)
 
   -- u is what the cycles are beyond the durations of the instructions retired
   pub record Pos (t : ℕ) : Type 0 where

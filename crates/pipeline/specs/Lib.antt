@@ -1,10 +1,3 @@
-pub mod Machine
-pub mod Cycle
-pub mod Numbers
-pub mod Run
-pub mod AtOnce
+pub mod Calls
 pub mod Term3
-pub mod View
-pub mod Whole
 pub mod Marked
-pub mod Tables

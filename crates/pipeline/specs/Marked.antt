@@ -6,8 +6,9 @@ use lib.ListN.{length, replicate}
 use Rattle.datapath.specs.Marked as datapath
 use Rattle.stops.specs.Marked as stops
 use Rattle.semantics.specs.Marked as semantics
-use Rattle.pipeline.specs.Machine.{machine}
-use Rattle.pipeline.specs.Run.{Ran, start, run}
+use Rattle.cycle.specs.Machine.{machine}
+use Rattle.runs.specs.Run.{Ran}
+use Rattle.pipeline.specs.Calls.{start, run}
 
 -- words E3A00005 E2500001 1AFFFFFD EF000000
 abbrev pub image : List ℕ
@@ -23,9 +24,9 @@ reported =
 
 pub record Report : Type 0 where
   pub answer : reported .answer ≡ 22
-  pub pc : reported .machine .control .pc ≡ 0x14
-  pub cycles : reported .machine .control .cycles ≡ 21
-  pub retired : reported .machine .control .retired ≡ 11
+  pub pc : reported .machine .control .pipe .pc ≡ 0x14
+  pub cycles : reported .machine .control .counts .cycles ≡ 21
+  pub retired : reported .machine .control .counts .retired ≡ 11
   pub flags : reported .machine .control .flags ≡ 6
   pub registers : reported .machine .registers ≡ replicate 15 0
 

@@ -1,27 +1,21 @@
 -- Term 3: what every list of run calls from an accepted start answers and leaves, in terms of the plain machine.
-use Prim.Native.Nat.{ℕ, zero, suc, _+_, _-_, _^_, _≤_, _<_}
+use Prim.Native.Nat.{ℕ, zero, suc, _+_, _-_, _≤_, _<_}
 use mathlib.Core.Path.{_≡_}
 use mathlib.Core.Bool.{false}
 use mathlib.Core.List.{List, [], _∷_}
 use mathlib.Core.Logic.{_≢_, _⊎_}
 use lib.ListN.{length}
-use Rattle.word.specs.Reader.{readOf}
-use Rattle.datapath.specs.Counter.{ahead}
-use Rattle.memory.specs.Memory.{wordAt}
-use Rattle.memory.specs.declared.Fetched.{Fetched}
-use Rattle.memory.specs.declared.Fetched.the-variants.{Word, Blank}
-use Rattle.semantics.specs.Effect.{ownSteps}
 use Rattle.plain.specs.Machine as plain
 use Rattle.plain.specs.Run as plain-calls
 use Rattle.plain.specs.Starts.{Answered}
 use Rattle.plain.specs.Trace.{trace, stopMet, durations, Does}
-use Rattle.steps.specs.declared.Phase.{Phase}
-use Rattle.steps.specs.declared.Phase.the-variants.{Step1, Refill1, Refill2, Later}
-use Rattle.pipeline.specs.Machine.{Machine, machine, pipe, control}
-use Rattle.steps.specs.Steps.{idle}
-use Rattle.pipeline.specs.Numbers.{bad}
-use Rattle.pipeline.specs.Cycle.{cycle}
-use Rattle.pipeline.specs.Run.{zeroed, start, holding, Ran, run}
+use Rattle.steps.specs.declared.Phase.the-variants.{Step1}
+use Rattle.cycle.specs.Machine.{Machine, machine, mostCycles}
+use Rattle.refusals.specs.Numbers.{bad}
+use Rattle.cycle.specs.Cycle.{cycle}
+use Rattle.runs.specs.Boundary.{boundary, lead}
+use Rattle.pipeline.specs.Calls.{zeroed, start, run}
+use Rattle.runs.specs.Run.{holding, Ran}
 
 -- ---- the two machines from one start
 
@@ -38,7 +32,7 @@ pub record Begins (g : List ℕ) (flags entry : ℕ) (mem : List ℕ) : Type 0 w
   pub answer : Answered (length mem) entry flags (start g flags entry mem .answer)
   pub alike : plain-calls.start g flags entry mem .answer ≡ start g flags entry mem .answer
   -- an accepted plain machine has the registers, flags, entry and memory that it is given
-  pub given : start g flags entry mem .answer ≡ 0 → plainFresh g flags entry mem ≡ plain.machine (plain.plain g entry flags 0 (length mem)) mem
+  pub given : start g flags entry mem .answer ≡ 0 → plainFresh g flags entry mem ≡ plain.machine (plain.plain g entry flags 0 (record { size = length mem })) mem
   -- a refused start hands back a zeroed record
   pub refused : start g flags entry mem .answer ≢ 0
       → (start g flags entry mem .core ≡ zeroed) × (plain-calls.start g flags entry mem .plain ≡ plain-calls.zeroed)
@@ -84,7 +78,7 @@ replyOf r = reply (r .answer) (r .used)
 pub record Accepted (n t : ℕ) (c : Call) : Type 0 where
   pub lent : length (c .memory) ≡ n
   pub small : c .budget ≤ 1000000
-  pub near : t + c .budget ≤ 2 ^ 40
+  pub near : t + c .budget ≤ mostCycles
 
 abbrev pub Refused : ℕ → ℕ → Call → Type 0
 Refused n t c = Accepted n t c → ⊥
@@ -109,7 +103,7 @@ pub data Answers (p : plain.Machine) (n t q : ℕ) (c : Call) : Reply → ℕ �
   -- else the budget is above 1,000,000
   too-many : length (c .memory) ≡ n → 1000000 < c .budget → Answers p n t q c (reply 3 0) t q
   -- else total plus budget is above 2^40
-  too-far : length (c .memory) ≡ n → c .budget ≤ 1000000 → 2 ^ 40 < t + c .budget → Answers p n t q c (reply 13 0) t q
+  too-far : length (c .memory) ≡ n → c .budget ≤ 1000000 → mostCycles < t + c .budget → Answers p n t q c (reply 13 0) t q
   -- an accepted run repeats a stop answered earlier, with 0 cycles
   repeats : Accepted n t c → q ≢ 0 → Answers p n t q c (reply q 0) t q
   -- else, if the stop total is below total plus budget, it answers the plain machine's stop and uses the difference
@@ -135,15 +129,6 @@ unfoldable pub reach : Machine → ℕ → Machine
 reach m zero = m
 reach m (suc t) = cycle (reach m t)
 
--- the core that stands for a plain machine between instructions, with k retired in t cycles: about to do step 1 (a boundary, the paper's term)
-unfoldable pub boundary : plain.Machine → ℕ → ℕ → Machine
-boundary p k t =
-    let a = p .plain .a in
-    let mem = p .memory in
-    machine (p .plain .registers)
-    (control (p .plain .flags) (pipe (ahead a 8) (wordAt mem (ahead a 4)) (wordAt mem a) (wordAt mem a)) Step1 idle t k 0 (p .plain .length))
-    mem
-
 -- the greatest k for which the plain machine does k instructions before its stop and their durations plus 2 don't pass t, or 0
 pub record Greatest (p : plain.Machine) (t k : ℕ) : Type 0 where
   pub fits : (Does p k × (sums p k ≤ t)) ⊎ (k ≡ 0)
@@ -157,21 +142,6 @@ pub record Distance (p : plain.Machine) (t d : ℕ) : Type 0 where
   pub least : (j : ℕ) → t ≤ sums p j → sums p k ≤ sums p j
   pub bound : d ≤ 19
 
--- the own steps of the word in IX, in the core's refills
-abbrev pub stepsOf : Fetched → List ℕ → ℕ
-stepsOf Blank g = 0
-stepsOf (Word w) g = 2 + ownSteps (readOf w) g
-
--- the cycles beyond the durations of the instructions done: the start's 2, and the steps under way
-abbrev pub leadIn : Phase → Fetched → List ℕ → ℕ
-leadIn Step1 ix g = 2
-leadIn Refill1 ix g = stepsOf ix g
-leadIn Refill2 ix g = suc (stepsOf ix g)
-leadIn (Later k) ix g = 3 + k
-
-unfoldable pub lead : Machine → ℕ
-lead m = leadIn (m .control .phase) (m .control .ix) (m .registers)
-
 -- what the list leaves, at total t with stop q answered
 pub record Leaves (p : plain.Machine) (m₀ m : Machine) (t q : ℕ) : Type 0 where
   -- what t cycles leave, holding the stop
@@ -179,12 +149,12 @@ pub record Leaves (p : plain.Machine) (m₀ m : Machine) (t q : ℕ) : Type 0 wh
   -- as many registers and bytes as at the start
   pub lengths : (length (m .registers) ≡ length (m₀ .registers)) × (length (m .memory) ≡ length (m₀ .memory))
   -- no bad record
-  pub good : bad (m .registers) (m .control) ≡ false
-  pub cycles : m .control .cycles ≡ t
+  pub good : bad m ≡ false
+  pub cycles : m .control .counts .cycles ≡ t
   pub stop : m .control .stop ≡ q
-  pub retired : Greatest p t (m .control .retired)
+  pub retired : Greatest p t (m .control .counts .retired)
   -- the cycles counted are the durations of the instructions done and the steps under way
-  pub counted : t ≡ durations p (m .control .retired) + lead m
+  pub counted : t ≡ durations p (m .control .counts .retired) + lead m
   pub distance : (d : ℕ) × Distance p t d
   -- a boundary exactly where t is a sum: there registers, flags, PC less 8 and memory are the plain machine's
   pub there : (k : ℕ) → Does p k → sums p k ≡ t → m ≡ holding (boundary (trace p k) k t) q
@@ -195,7 +165,7 @@ pub record Further (n t : ℕ) (m : Machine) (c : Call) : Type 0 where
   -- a refused one hands back the core, and the bytes that it was lent, as they were
   pub kept : Refused n t c → call c m .machine ≡ lend m (c .memory)
   -- the core's cycles rise by those that it says it used
-  pub rises : call c m .machine .control .cycles ≡ m .control .cycles + call c m .used
+  pub rises : call c m .machine .control .counts .cycles ≡ m .control .counts .cycles + call c m .used
 
 -- what a list of calls from a start with n bytes, of the plain machine p and the core m₀, comes to
 pub record Follows (p : plain.Machine) (m₀ : Machine) (n : ℕ) (cs : List Call) (rs : List Reply) (m : Machine) (t : ℕ) : Type 0 where

@@ -1,28 +1,17 @@
-// The pipelined core: its record, a cycle, a start and a run.
-mod cycle;
-mod numbers;
-mod quick;
-mod run;
-
-use memory::Fetched;
+// The pipelined core: its record and its calls, a start, a cycle and a run.
+ghost use mathlib.Core.Path.{_≡_};
+ghost use lib.ListN.{length};
+ghost use Rattle.cycle.specs.Machine.{machine};
+ghost use Rattle.pipeline.specs.Calls.{zeroed, start, run};
+ghost use Rattle.runs.specs.Run.{ran};
+use cycle::Control;
+use cycle::fresh::fresh;
+use memory::Board;
+use plain::numbers::start_answer;
+use refusals::numbers::at_once;
+use runs::run::run_from;
+use runs::run::run_on;
 use steps::Phase;
-
-// All of the core but its registers. IX holds the word of the instruction under way.
-pub struct Control {
-    pub pc: u32,
-    pub flags: u32,
-    pub ir1: Fetched,
-    pub ir2: Fetched,
-    pub ix: Fetched,
-    pub phase: Phase,
-    pub address: u32,
-    pub datum: u32,
-    pub base: u32,
-    pub cycles: u64,
-    pub retired: u64,
-    pub stop: u32,
-    pub length: u32,
-}
 
 pub struct Core {
     pub registers: [u32; 15],
@@ -41,36 +30,83 @@ pub struct CoreRan {
     pub core: Core,
 }
 
-// The same where the registers are lent.
-struct Went {
-    answer: u32,
-    used: u64,
-    control: Control,
+// What a refused start hands back.
+fn zeroed() -> Core
+    ensures { λ r. ⌜ r ≡ zeroed ⌝ }
+{
+    let control = Control {
+        phase: Phase::Step1,
+        ..fresh(0, 0, Board { size: 0 })
+    };
+    Core {
+        registers: [0; 15],
+        control,
+    }
 }
 
-// The counter and the words fetched ahead.
-pub struct Piped {
-    pub pc: u32,
-    pub ir1: Fetched,
-    pub ir2: Fetched,
-}
+impl Core {
+    pub fn start(registers: [u32; 15], flags: u32, entry: u32, memory: &[u8]) -> CoreStarted
+        ensures { λ r. ⌜ record { answer = r .answer; core = r .core } ≡ start registers flags entry (now (memory .entry)) ⌝ }
+    {
+        let answer = start_answer(memory.len(), entry, flags);
+        if answer != 0 {
+            let core = zeroed();
+            return CoreStarted { answer, core };
+        }
+        let size = memory.len() as u32;
+        let control = fresh(flags, entry, Board { size });
+        CoreStarted {
+            answer: 0,
+            core: Core { registers, control },
+        }
+    }
 
-// A core between two instructions: where the next one is, the flags and the counts.
-pub struct Between {
-    pub a: u32,
-    pub flags: u32,
-    pub cycles: u64,
-    pub retired: u64,
-}
+    // One cycle, or the stop found: a run with a budget of 1, by the plain loop.
+    pub fn cycle(mut self, memory: &mut [u8]) -> CoreRan
+        ensures { λ r. ⌜ ran (r .answer) (r .used) (machine (r .core .registers) (r .core .control) (now (memory .exit))) ≡ run (length (now (memory .entry))) 1 (machine (self .registers) (self .control) (now (memory .entry))) ⌝ }
+    {
+        let c = self.control;
+        let answer = at_once(memory.len(), 1, c, &self.registers);
+        if answer != 0 {
+            return CoreRan {
+                answer,
+                used: 0,
+                core: self,
+            };
+        }
+        let went = run_from(c, &mut self.registers, memory, 1);
+        let next = went.control;
+        self.control = next;
+        CoreRan {
+            answer: went.answer,
+            used: went.used,
+            core: self,
+        }
+    }
 
-// Where whole instructions came to, and the cycles they took.
-pub struct Came {
-    pub at: Between,
-    pub used: u64,
-}
-
-// A core under way, and the cycles used to come there.
-pub struct Under {
-    pub control: Control,
-    pub used: u64,
+    // A single cycle has no use for the quick road.
+    pub fn run(mut self, memory: &mut [u8], budget: u64) -> CoreRan
+        ensures { λ r. ⌜ ran (r .answer) (r .used) (machine (r .core .registers) (r .core .control) (now (memory .exit))) ≡ run (length (now (memory .entry))) budget (machine (self .registers) (self .control) (now (memory .entry))) ⌝ }
+    {
+        if budget == 1 {
+            return self.cycle(memory);
+        }
+        let c = self.control;
+        let answer = at_once(memory.len(), budget, c, &self.registers);
+        if answer != 0 {
+            return CoreRan {
+                answer,
+                used: 0,
+                core: self,
+            };
+        }
+        let went = run_on(c, &mut self.registers, memory, budget);
+        let control = went.control;
+        self.control = control;
+        CoreRan {
+            answer: went.answer,
+            used: went.used,
+            core: self,
+        }
+    }
 }

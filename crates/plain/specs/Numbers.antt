@@ -32,7 +32,7 @@ isCounter a = eqb (a % 4) 0 && ltb a (2 ^ 26)
 
 -- 11: a bad record
 unfoldable pub bad : Plain → Bool
-bad p = badLength (p .length) || not (isCounter (p .a)) || badFlags (p .flags) || not (isStop (p .stop))
+bad p = badLength (p .board .size) || not (isCounter (p .a)) || badFlags (p .flags) || not (isStop (p .stop))
 
 -- 3: a budget above 1,000,000
 abbrev pub badBudget : ℕ → Bool
@@ -40,4 +40,4 @@ badBudget n = ltb 1000000 n
 
 -- what a run of this record refuses with, or 0: 12, 11, 3
 unfoldable pub refusal : Plain → ℕ → ℕ → ℕ
-refusal p lent budget = pick (not (eqb lent (p .length))) 12 (pick (bad p) 11 (pick (badBudget budget) 3 0))
+refusal p lent budget = pick (not (eqb lent (p .board .size))) 12 (pick (bad p) 11 (pick (badBudget budget) 3 0))

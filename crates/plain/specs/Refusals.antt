@@ -9,7 +9,7 @@ use Rattle.plain.specs.Numbers.{refusal}
 
 -- A, flags, stop and length
 abbrev pub standing : ℕ → ℕ → ℕ → ℕ → Plain
-standing a f stop n = plain (replicate 15 0) a f stop n
+standing a f stop n = plain (replicate 15 0) a f stop (record { size = n })
 
 -- each of the first values in its place makes the record bad, and none of the second
 abbrev pub Tells : (ℕ → ℕ → ℕ) → List ℕ → List ℕ → Type 0

@@ -10,10 +10,10 @@ use Rattle.plain.specs.Numbers.{startAnswer, refusal}
 
 -- a record with everything 0: what a refused start hands back
 abbrev pub zeroed : Plain
-zeroed = plain (replicate 15 0) 0 0 0 0
+zeroed = plain (replicate 15 0) 0 0 0 (record { size = 0 })
 
 abbrev pub begun : List ℕ → ℕ → ℕ → List ℕ → Plain
-begun g flags entry mem = plain g entry flags 0 (length mem)
+begun g flags entry mem = plain g entry flags 0 (record { size = length mem })
 
 -- start: the number it answers, and the record
 pub record Begun : Type 0 where

@@ -7,6 +7,7 @@ pub mod numbers;
 mod run;
 mod step;
 
+use memory::Board;
 use numbers::refusal;
 use numbers::start_answer;
 use run::run_from;
@@ -17,7 +18,7 @@ pub struct Plain {
     pub a: u32,
     pub flags: u32,
     pub stop: u32,
-    pub length: u32,
+    pub board: Board,
 }
 
 pub struct PlainStarted {
@@ -47,7 +48,7 @@ fn zeroed() -> Plain
         a: 0,
         flags: 0,
         stop: 0,
-        length: 0,
+        board: Board { size: 0 },
     }
 }
 
@@ -68,7 +69,9 @@ impl Plain {
                 a: entry,
                 flags,
                 stop: 0,
-                length: memory.len() as u32,
+                board: Board {
+                    size: memory.len() as u32,
+                },
             },
         }
     }
@@ -98,7 +101,8 @@ impl Plain {
             flags: self.flags,
             stop: self.stop,
         };
-        let ended = run_from(&mut registers, memory, at, self.length, count);
+        let board = self.board;
+        let ended = run_from(&mut registers, memory, at, board, count);
         let last = ended.at;
         PlainRan {
             answer: ended.answer,
@@ -108,7 +112,7 @@ impl Plain {
                 a: last.a,
                 flags: last.flags,
                 stop: last.stop,
-                length: self.length,
+                board,
             },
         }
     }

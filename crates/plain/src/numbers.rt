@@ -62,14 +62,17 @@ pub fn budget_is_bad(budget: u64) -> bool
 fn is_bad(p: Plain) -> bool
     ensures { λ r. ⌜ r ≡ bad p ⌝ }
 {
-    length_is_bad(p.length as usize) | !is_counter(p.a) | flags_are_bad(p.flags) | !is_stop(p.stop)
+    length_is_bad(p.board.size as usize)
+        | !is_counter(p.a)
+        | flags_are_bad(p.flags)
+        | !is_stop(p.stop)
 }
 
 // What a run refuses with: 12, 11, 3, or 0 where it is accepted.
 pub fn refusal(p: Plain, lent: usize, budget: u64) -> u32
     ensures { λ r. ⌜ r ≡ refusal p lent budget ⌝ }
 {
-    if lent != p.length as usize {
+    if lent != p.board.size as usize {
         return 12;
     }
     if is_bad(p) {

@@ -4,6 +4,7 @@ ghost use Rattle.plain.specs.Lent.{lent};
 ghost use Rattle.plain.specs.Run.{ran, runFrom};
 use crate::At;
 use crate::step::advance;
+use memory::Board;
 
 // The answer, how many instructions it did, and where the machine is then.
 pub struct Ended {
@@ -16,15 +17,15 @@ pub fn run_from(
     registers: &mut [u32; 15],
     memory: &mut [u8],
     at: At,
-    length: u32,
+    board: Board,
     count: u64,
 ) -> Ended
-    ensures { λ r. ⌜ ran (r .answer) (r .done) (lent (now (registers .exit)) (r .at) length (now (memory .exit))) ≡ runFrom count (lent (now (registers .entry)) at length (now (memory .entry))) ⌝ }
+    ensures { λ r. ⌜ ran (r .answer) (r .done) (lent (now (registers .exit)) (r .at) board (now (memory .exit))) ≡ runFrom count (lent (now (registers .entry)) at board (now (memory .entry))) ⌝ }
 {
     let mut here = at;
     let mut done: u64 = 0;
     while done < count {
-        here = advance(registers, memory, here, length);
+        here = advance(registers, memory, here, board);
         if here.stop != 0 {
             return Ended {
                 answer: here.stop,

@@ -3,13 +3,13 @@ ghost use mathlib.Core.Path.{_≡_};
 ghost use Rattle.plain.specs.Machine.{step};
 ghost use Rattle.plain.specs.Lent.{lent};
 use crate::At;
+use memory::Board;
 use semantics::perform::perform_at;
-use stops::Board;
 
-pub fn advance(registers: &mut [u32; 15], memory: &mut [u8], at: At, length: u32) -> At
-    ensures { λ r. ⌜ lent (now (registers .exit)) r length (now (memory .exit)) ≡ step (lent (now (registers .entry)) at length (now (memory .entry))) ⌝ }
+pub fn advance(registers: &mut [u32; 15], memory: &mut [u8], at: At, board: Board) -> At
+    ensures { λ r. ⌜ lent (now (registers .exit)) r board (now (memory .exit)) ≡ step (lent (now (registers .entry)) at board (now (memory .entry))) ⌝ }
 {
-    let p = perform_at(registers, memory, at.flags, at.a, Board { length });
+    let p = perform_at(registers, memory, at.flags, at.a, board);
     At {
         a: p.next,
         flags: p.flags,

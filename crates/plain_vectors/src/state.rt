@@ -1,22 +1,29 @@
 // The state that a case leaves: `start answer done a flags stop length`, the registers, and the first words of the memory.
 ghost use Prim.Native.Nat.{_≤_};
-use crate::print;
-use memory::read_word;
+use memory::bytes::word_in;
 use plain::PlainRan;
+use tokens::print::field;
+
+fn next(value: u32) {
+    field(b" ", value, 8);
+}
 
 pub fn print_record(start: u32, ran: PlainRan) {
     let plain = ran.plain;
-    print::word(start);
-    print::next_word(ran.answer);
-    print::next_word((ran.done % 0x1_0000_0000) as u32);
-    print::next_word(plain.a);
-    print::next_word(plain.flags);
-    print::next_word(plain.stop);
-    print::next_word(plain.length);
-    let mut i = 0;
-    while i < 15 {
-        print::next_word(plain.registers[i]);
-        i += 1;
+    let registers = plain.registers;
+    field(b"", start, 8);
+    next(ran.answer);
+    next((ran.done % 0x1_0000_0000) as u32);
+    next(plain.a);
+    next(plain.flags);
+    next(plain.stop);
+    next(plain.board.size);
+    print_registers(&registers);
+}
+
+fn print_registers(registers: &[u32; 15]) {
+    for i in 0..15 {
+        next(registers[i]);
     }
 }
 
@@ -34,9 +41,7 @@ pub fn shown(length: usize) -> u32
 pub fn print_memory(memory: &[u8], words: u32)
     requires { ⌜ words ≤ 64 ⌝ }
 {
-    let mut i: u32 = 0;
-    while i < words {
-        print::next_word(read_word(memory, i * 4));
-        i += 1;
+    for i in 0..words {
+        next(word_in(memory, i * 4));
     }
 }

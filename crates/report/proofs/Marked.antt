@@ -7,7 +7,7 @@ use lib.ListN.{length, replicate}
 use Rattle.text.specs.Text.{hexDigits, decimalDigits}
 use Rattle.plain.specs.Machine as plain
 use Rattle.plain.specs.Numbers.{startAnswer}
-use Rattle.pipeline.specs.Run.{start}
+use Rattle.pipeline.specs.Calls.{start}
 use Rattle.pipeline.specs.Marked.{reported, Report}
 use Rattle.pipeline.specs.Term3.{fresh, Call, call, Reply, replyOf, Calls, no-calls, accepted, Answers, other-length, too-many, too-far, repeats, stops, spends, AllAnswer, none, more}
 use Rattle.pipeline.proofs.Lists.{term3}
@@ -40,7 +40,7 @@ first (spends a z s b) e = omega (arith, s)
 one : {p : plain.Machine} {n t q : ℕ} {c : Call} {r : Reply} → AllAnswer p n 0 0 (c ∷ []) (r ∷ []) t q → r .answer ≡ 0 → t ≡ c .budget
 one (more a none) e = first a e
 
-spent : (image : List ℕ) → begun image .answer ≡ 0 → finished image .answer ≡ 0 → finished image .machine .control .cycles ≡ 64
+spent : (image : List ℕ) → begun image .answer ≡ 0 → finished image .answer ≡ 0 → finished image .machine .control .counts .cycles ≡ 64
 unfolding begun finished fresh
 spent image accepts e =
     let c : Call = record { memory = image; budget = 64 } in

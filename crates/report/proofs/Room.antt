@@ -12,7 +12,7 @@ use Rattle.text.specs.Text.{decimalDigits}
 use Rattle.text.specs.Output.{Output, output, put}
 use Rattle.text.proofs.Put.{put-sets}
 use Rattle.text.proofs.Digits.{hex-length, decimal-length}
-use Rattle.pipeline.specs.declared.Control.{Control}
+use Rattle.cycle.specs.declared.Control.{Control}
 use Rattle.report.specs.Lines.{registerLine, registerLines}
 use Rattle.report.specs.Report.{answerLine, coreLines, reportText, begun, finished, accepted}
 
@@ -28,7 +28,7 @@ core-length : (registers : List ℕ) (control : Control) → length (coreLines r
 unfolding coreLines
 core-length registers control =
     simp (length-append, hex-length, register-lines-length)
-    (omega (arith, decimal-length 20 (control .cycles), decimal-length 20 (control .retired)))
+    (omega (arith, decimal-length 20 (control .counts .cycles), decimal-length 20 (control .counts .retired)))
 
 pub report-length : (image : List ℕ) → length (reportText image) ≤ 290
 unfolding reportText

@@ -4,8 +4,9 @@ use mathlib.Core.List.{List, _++_}
 use Prim.Native.Nat.{ℕ}
 use borrow.Author.Tests.{eq-eqb, ne-eqb}
 use lib.ListN.{length}
-use Rattle.pipeline.specs.Machine.{machine}
-use Rattle.pipeline.specs.Run.{Begun, Ran, run}
+use Rattle.cycle.specs.Machine.{machine}
+use Rattle.pipeline.specs.Calls.{Begun, run}
+use Rattle.runs.specs.Run.{Ran}
 use Rattle.report.specs.Report.{answerLine, coreLines, reportText, imageAfter, budget, begun, finished}
 
 module _ (image : List ℕ) (b : Begun) (is : b ≡ begun image) where

@@ -2,9 +2,9 @@
 use Prim.Native.Nat.{ℕ}
 use mathlib.Core.List.{List, [], _∷_}
 use Rattle.memory.specs.declared.Fetched.the-variants.{Blank}
-use Rattle.pipeline.specs.declared.Control.{Control}
-use Rattle.pipeline.specs.Machine.{pipe, latchesOf, control}
-use Rattle.pipeline.specs.Run.{zeroed}
+use Rattle.cycle.specs.declared.Control.{Control}
+use Rattle.cycle.specs.Machine.{pipe, counts}
+use Rattle.pipeline.specs.Calls.{zeroed}
 
 -- R0 to R14
 abbrev pub registers : List ℕ
@@ -13,6 +13,4 @@ registers =
 
 -- flags 10, at cycle 2^40
 abbrev pub held : Control
-held =
-    let c = zeroed .control in
-    control 10 (pipe 0x3FFFFFC Blank Blank Blank) (c .phase) (latchesOf c) 0x10000000000 987654321 0 16
+held = record { flags = 10; pipe = pipe 0x3FFFFFC Blank Blank Blank; phase = zeroed .control .phase; latches = zeroed .control .latches; counts = counts 0x10000000000 987654321; stop = 0; board = record { size = 16 } }

@@ -54,4 +54,4 @@ pub record Marked : Type 0 where
   -- Each value stands in its own line: pc, flags and registers hexadecimal, cycles and retired decimal.
   pub told : coreLines registers held ≡ bytes heldText
   -- Budget 64: an image that is neither refused nor stopped is told after 64 cycles.
-  pub spent : (image : List ℕ) → begun image .answer ≡ 0 → finished image .answer ≡ 0 → finished image .machine .control .cycles ≡ 64
+  pub spent : (image : List ℕ) → begun image .answer ≡ 0 → finished image .answer ≡ 0 → finished image .machine .control .counts .cycles ≡ 64

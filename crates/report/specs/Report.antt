@@ -6,9 +6,10 @@ use lib.Dec.{eqb}
 use lib.ListN.{length, replicate}
 use Rattle.bits.specs.Choice.{pick}
 use Rattle.text.specs.Text.{hexDigits, decimal}
-use Rattle.pipeline.specs.declared.Control.{Control}
-use Rattle.pipeline.specs.Machine.{machine}
-use Rattle.pipeline.specs.Run.{Begun, start, Ran, run}
+use Rattle.cycle.specs.declared.Control.{Control}
+use Rattle.cycle.specs.Machine.{machine}
+use Rattle.pipeline.specs.Calls.{Begun, start, run}
+use Rattle.runs.specs.Run.{Ran}
 use Rattle.report.specs.Lines.{line, registerLines}
 
 -- answer=
@@ -18,9 +19,9 @@ answerLine answer = line (97 ∷ 110 ∷ 115 ∷ 119 ∷ 101 ∷ 114 ∷ 61 ∷ 
 -- pc= cycles= retired= flags= and the registers
 unfoldable pub coreLines : List ℕ → Control → List ℕ
 coreLines registers control =
-    line (112 ∷ 99 ∷ 61 ∷ []) (hexDigits 8 (control .pc))
-    ++ (line (99 ∷ 121 ∷ 99 ∷ 108 ∷ 101 ∷ 115 ∷ 61 ∷ []) (decimal (control .cycles))
-    ++ (line (114 ∷ 101 ∷ 116 ∷ 105 ∷ 114 ∷ 101 ∷ 100 ∷ 61 ∷ []) (decimal (control .retired))
+    line (112 ∷ 99 ∷ 61 ∷ []) (hexDigits 8 (control .pipe .pc))
+    ++ (line (99 ∷ 121 ∷ 99 ∷ 108 ∷ 101 ∷ 115 ∷ 61 ∷ []) (decimal (control .counts .cycles))
+    ++ (line (114 ∷ 101 ∷ 116 ∷ 105 ∷ 114 ∷ 101 ∷ 100 ∷ 61 ∷ []) (decimal (control .counts .retired))
     ++ (line (102 ∷ 108 ∷ 97 ∷ 103 ∷ 115 ∷ 61 ∷ []) (hexDigits 1 (control .flags))
     ++ registerLines 15 registers)))
 

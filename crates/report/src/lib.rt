@@ -6,6 +6,7 @@ ghost use lib.ListN.{length};
 ghost use lib.Seq.{sets};
 ghost use Rattle.text.specs.Output.{output, put};
 ghost use Rattle.report.specs.Report.{answerLine, coreLines, reportText, imageAfter};
+use libc::STDOUT_FILENO;
 use lines::decimal_line;
 use lines::hex_line;
 use lines::register_lines;
@@ -25,9 +26,9 @@ fn core_lines(out: &mut [u8; 512], at: usize, core: Core) -> usize
 {
     let control = core.control;
     let registers = core.registers;
-    let pc = hex_line(out, at, b"pc=", control.pc, 8);
-    let cycles = decimal_line(out, pc, b"cycles=", control.cycles);
-    let retired = decimal_line(out, cycles, b"retired=", control.retired);
+    let pc = hex_line(out, at, b"pc=", control.pipe.pc, 8);
+    let cycles = decimal_line(out, pc, b"cycles=", control.counts.cycles);
+    let retired = decimal_line(out, cycles, b"retired=", control.counts.retired);
     let flags = hex_line(out, retired, b"flags=", control.flags, 1);
     register_lines(out, flags, &registers)
 }
@@ -49,4 +50,11 @@ pub fn report(image: &mut [u8], out: &mut [u8; 512]) -> usize
     let after = ran.core;
     let end = answer_line(out, 0, answer);
     core_lines(out, end, after)
+}
+
+// On standard output.
+pub fn print(image: &mut [u8]) {
+    let mut out = [0u8; 512];
+    let end = report(image, &mut out);
+    io::write_all(STDOUT_FILENO, &out[..end]);
 }

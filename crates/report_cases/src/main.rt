@@ -1,24 +1,26 @@
 // Reads images from standard input as cases and prints the report of each.
-mod case;
-
+use tokens::buffer;
+use tokens::print;
 use tokens::token;
-use tokens::token::Token;
 
-// A proved loop has to end, and nothing says that the input does: the turns are counted down from a number that no run uses up.
 fn main() {
-    let mut turns = u64::MAX;
-    while turns > 0 && next() {
-        turns -= 1;
+    let mut left = tokens::CASES;
+    while left > 0 && case() {
+        left -= 1;
     }
 }
 
-// One case. Answers whether to go on.
-fn next() -> bool {
-    match token::read() {
-        Token::Word(length) => {
-            case::tell(length);
-            true
-        }
-        Token::End => false,
+// A case: `length k`, then k words of the image. Its report is followed by a line that ends it. Answers whether there was one.
+fn case() -> bool {
+    let mut head = [0u32; 2];
+    if !token::read(&mut head) {
+        return false;
     }
+    let mut memory = [0u8; buffer::BYTES];
+    let length = buffer::bytes(&memory, head[0]);
+    let image = &mut memory[..length];
+    buffer::read_words(image, head[1]);
+    report::print(image);
+    print::bytes(b"--\n");
+    true
 }

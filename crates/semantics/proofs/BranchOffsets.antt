@@ -11,13 +11,17 @@ use lib.Seq.{getD-set-same, getD-set-other}
 use Rattle.bits.specs.Choice.{pick}
 use Rattle.word.specs.declared.Branch.{Branch}
 use Rattle.datapath.specs.Counter.{ahead, counter, r15Word}
+use Rattle.registers.specs.State.{State}
 use Rattle.registers.specs.Registers.{put}
 use Rattle.semantics.specs.Branch.{branched}
 use Rattle.semantics.specs.Effect.{effectOf}
 use Rattle.semantics.specs.BranchOffsets.{BranchOffsets, Branches, branchEffect}
 
-module _ (i : Branch) (g : List ℕ) (f a : ℕ) (mem : List ℕ) (fits : f < 16) (word : a % 4 ≡ 0) where
-  others : (r : ℕ) → r ≢ 14 → getD (branchEffect i g f a mem .out .registers) r 0 ≡ getD g r 0
+module _ (i : Branch) (s : State) (fits : s .status < 16) (word : s .a % 4 ≡ 0) where
+  abbrev g : List ℕ
+  g = s .registers
+
+  others : (r : ℕ) → r ≢ 14 → getD (branchEffect i s .out .registers) r 0 ≡ getD g r 0
   unfolding effectOf branched put
   others r n = go (i .link) _
     where
@@ -25,11 +29,11 @@ module _ (i : Branch) (g : List ℕ) (f a : ℕ) (mem : List ℕ) (fits : f < 16
       go true v = getD-set-other g 14 r v 0 n
       go false v = refl
 
-  linked : i .link ≡ true → length g ≡ 15 → getD (branchEffect i g f a mem .out .registers) 14 0 ≡ f * 2 ^ 28 + (a + 4) % 2 ^ 26
+  linked : i .link ≡ true → length g ≡ 15 → getD (branchEffect i s .out .registers) 14 0 ≡ s .status * 2 ^ 28 + (s .a + 4) % 2 ^ 26
   unfolding effectOf branched put r15Word ahead
   linked e l = rw (e, getD-set-same g 14 _ 0 (omega arith)) (omega arith)
 
-  branches : Branches i g f a mem
+  branches : Branches i s
   unfolding effectOf branched counter ahead
   branches = record {
     below = omega arith;

@@ -4,3 +4,4 @@ pub mod Marked
 pub mod BranchOffsets
 pub mod OwnBase
 pub mod Stopped
+pub mod StoredCounters

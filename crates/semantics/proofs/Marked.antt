@@ -7,20 +7,24 @@ use Rattle.condition.specs.Condition.{passes}
 use Rattle.datapath.specs.Shifter.{rotated, lsl, lsr, ror, shift, byRegister, byAmount, constant}
 use Rattle.datapath.specs.Alu.{sum, difference, operate, flagsOf}
 use Rattle.datapath.specs.Counter.{ahead, r15Word}
-use Rattle.memory.specs.Memory.{holdsWord, readWord, writeWord}
+use Rattle.memory.specs.Bytes.{holdsWord, wordIn, withWord}
+use Rattle.memory.specs.Memory.{place, limit}
 use Rattle.registers.specs.Registers.{register, put, arrives}
 use Rattle.processing.specs.Processing.{operandOf, computedOf, flagsAfter, stored, processed}
 use Rattle.transfer.specs.Single as single
 use Rattle.transfer.specs.Single.{offsetOf, addressOf, loadedValue, storedValue, storedTo}
 use Rattle.transfer.specs.Block.{namedFrom, named, changedBase, lowestAddress, withBase, loads, stores, storesAll}
 use Rattle.semantics.specs.Branch.{branched}
-use Rattle.semantics.specs.Effect.{loadEffect, storeEffect, blockLoadEffect, blockStoreEffect, effectOf, ownSteps}
-use Rattle.stops.specs.Stops.{ruleBroken, movedBy, storedBy, movedStop, stopOf, stopFor}
-use Rattle.semantics.specs.Perform.{effectFor, stepsFor, performs}
+use Rattle.stops.specs.Rules.{ruleBroken}
+use Rattle.stops.specs.Moves.{movesOf}
+use Rattle.stops.specs.Stops.{due, movedStop, stopOf}
+use Rattle.semantics.specs.Effect.{loadEffect, storeEffect, blockLoadEffect, blockStoreEffect, effectOf}
+use Rattle.semantics.specs.Duration.{ownSteps}
+use Rattle.semantics.specs.Perform.{executed, performs}
 use Rattle.semantics.specs.Marked.{Marked}
 
 pub marked : Marked
-unfolding field bit readOf passes rotated lsl lsr ror shift byRegister byAmount constant sum difference operate flagsOf operandOf computedOf flagsAfter stored processed ahead r15Word holdsWord readWord writeWord register put arrives offsetOf addressOf loadedValue storedValue storedTo single.changedBase single.withBase namedFrom named changedBase lowestAddress withBase loads stores storesAll branched loadEffect storeEffect blockLoadEffect blockStoreEffect effectOf ownSteps ruleBroken movedBy storedBy movedStop stopOf stopFor effectFor stepsFor performs
+unfolding field bit readOf passes rotated lsl lsr ror shift byRegister byAmount constant sum difference operate flagsOf operandOf computedOf flagsAfter stored processed ahead r15Word holdsWord wordIn withWord place limit register put arrives offsetOf addressOf loadedValue storedValue storedTo single.changedBase single.withBase namedFrom named changedBase lowestAddress withBase loads stores storesAll branched loadEffect storeEffect blockLoadEffect blockStoreEffect effectOf ownSteps ruleBroken movesOf due movedStop stopOf executed performs
 marked = record {
   subs-equal = λ f. record { result = refl; flags = refl };
   subs-borrow = λ f. record { result = refl; flags = refl };

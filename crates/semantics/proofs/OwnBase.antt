@@ -14,8 +14,9 @@ use Rattle.bits.specs.Choice.{pick}
 use Rattle.word.specs.declared.Single.{Single}
 use Rattle.word.specs.declared.Block.{Block}
 use Rattle.datapath.specs.Counter.{ahead}
-use Rattle.memory.specs.Memory.{readWord}
+use Rattle.memory.specs.Memory.{Memory, readWord}
 use Rattle.registers.specs.declared.Goes.the-variants.{Next, To}
+use Rattle.registers.specs.State.{State}
 use Rattle.registers.specs.Registers.{register, put, out, arrives}
 use Rattle.transfer.specs.Single as single
 use Rattle.transfer.specs.Block as block
@@ -23,7 +24,7 @@ use Rattle.transfer.proofs.Lengths.{single-base-length, block-base-length}
 use Rattle.transfer.proofs.NamedRegisters.{named-rising}
 use Rattle.transfer.proofs.Arrivals.{loaded-at}
 use Rattle.semantics.specs.Effect.{loadEffect, storeEffect, blockLoadEffect}
-use Rattle.semantics.specs.OwnBase.{SingleBase, BlockBase, OwnBase, afterLoad, afterBlockLoad}
+use Rattle.semantics.specs.OwnBase.{SingleBase, BlockBase, OwnBase, afterLoad, afterBlockLoad, changed}
 
 put-same : (g : List ℕ) (x v : ℕ) → x < 15 → length g ≡ 15 → getD (put g x v) x 0 ≡ v
 unfolding put
@@ -53,12 +54,15 @@ or-true : (b : Bool) → (b || true) ≡ true
 or-true true = refl
 or-true false = refl
 
-module _ (i : Single) (g : List ℕ) (f a : ℕ) (mem : List ℕ) (low : i .rn < 15) (l : length g ≡ 15) where
+module _ (i : Single) (s : State) (low : i .rn < 15) (l : length (s .registers) ≡ 15) where
+  abbrev g : List ℕ
+  g = s .registers
+
   abbrev base : ℕ
-  base = single.changedBase i g f (ahead a 8)
+  base = changed i s
 
   abbrev value : ℕ
-  value = single.loadedValue i mem (single.addressOf i g f (ahead a 8))
+  value = single.loadedValue i (s .memory) (single.addressOf i g (s .status) (ahead (s .a) 8))
 
   with-base : single.writesBase i ≡ true → getD (single.withBase i g base) (i .rn) 0 ≡ base
   unfolding single.withBase
@@ -70,15 +74,15 @@ module _ (i : Single) (g : List ℕ) (f a : ℕ) (mem : List ℕ) (low : i .rn <
   back : i .w ≡ true → single.writesBase i ≡ true
   back e = rw e (or-true (not (i .p)))
 
-  loaded : i .rd < 15 → afterLoad i g f a mem (i .rd) ≡ single.loadedValue i mem (single.addressOf i g f (ahead a 8))
+  loaded : i .rd < 15 → afterLoad i s (i .rd) ≡ value
   unfolding loadEffect arrives
   loaded h = rw (lt-ltb (i .rd) 15 h) (getD-set-same (single.withBase i g base) (i .rd) value 0 (omega (arith, single-base-length i g base)))
 
-  other : i .rd ≢ i .rn → afterLoad i g f a mem (i .rn) ≡ getD (single.withBase i g base) (i .rn) 0
+  other : i .rd ≢ i .rn → afterLoad i s (i .rn) ≡ getD (single.withBase i g base) (i .rn) 0
   unfolding loadEffect
-  other d = arrives-other (single.withBase i g base) f (i .rd) value (i .rn) (λ e. d (sym e))
+  other d = arrives-other (single.withBase i g base) (s .status) (i .rd) value (i .rn) (λ e. d (sym e))
 
-  single-base : SingleBase i g f a mem
+  single-base : SingleBase i s
   unfolding storeEffect single.storedValue register single.withBase
   single-base = record {
     loaded = loaded;
@@ -91,7 +95,7 @@ module _ (i : Single) (g : List ℕ) (f a : ℕ) (mem : List ℕ) (low : i .rn <
   }
 
 -- a register that is not named is kept
-unnamed : (f : ℕ) (mem xs g : List ℕ) (a r : ℕ) → ((k : ℕ) → k < length xs → getD xs k 16 ≢ r) → getD (block.loads xs g f a mem .registers) r 0 ≡ getD g r 0
+unnamed : (f : ℕ) (mem : Memory) (xs g : List ℕ) (a r : ℕ) → ((k : ℕ) → k < length xs → getD xs k 16 ≢ r) → getD (block.loads xs g f a mem .registers) r 0 ≡ getD g r 0
 unfolding block.loads
 unnamed f mem [] g a r n = refl
 unnamed f mem (x ∷ []) g a r n = arrives-other g f x (readWord mem a) r (λ e. n 0 (omega arith) (sym e))
@@ -99,28 +103,28 @@ unnamed f mem (x ∷ (y ∷ ys)) g a r n =
     unnamed f mem (y ∷ ys) (put g x (readWord mem a)) (block.next a) r (λ k h. n (suc k) (omega arith))
     ∙ put-other g x (readWord mem a) r (λ e. n 0 (omega arith) (sym e))
 
-module _ (i : Block) (g : List ℕ) (f : ℕ) (mem : List ℕ) (low : i .rn < 15) (l : length g ≡ 15) where
+module _ (i : Block) (s : State) (low : i .rn < 15) (l : length (s .registers) ≡ 15) where
   abbrev with-changed : List ℕ
-  with-changed = block.withBase i g (block.changedBase i g)
+  with-changed = block.withBase i (s .registers) (block.changedBase i (s .registers))
 
   kept-length : length with-changed ≡ 15
-  kept-length = block-base-length i g (block.changedBase i g) ∙ l
+  kept-length = block-base-length i (s .registers) (block.changedBase i (s .registers)) ∙ l
 
-  base-loaded : (k : ℕ) → k < block.count i → getD (block.named (i .list)) k 16 ≡ i .rn → block.lowestAddress i g + 4 * block.count i < 2 ^ 32
-      → afterBlockLoad i g f mem (i .rn) ≡ readWord mem (block.lowestAddress i g + 4 * k)
+  base-loaded : (k : ℕ) → k < block.count i → getD (block.named (i .list)) k 16 ≡ i .rn → block.lowestAddress i (s .registers) + 4 * block.count i < 2 ^ 32
+      → afterBlockLoad i s (i .rn) ≡ readWord (s .memory) (block.lowestAddress i (s .registers) + 4 * k)
   unfolding blockLoadEffect
   base-loaded k h e w =
       let below : getD (block.named (i .list)) k 16 < 15 = omega arith in
-      rw e at (loaded-at f mem (block.named (i .list)) with-changed (block.lowestAddress i g) 0 k (named-rising (i .list)) kept-length h below w)
+      rw e at (loaded-at (s .status) (s .memory) (block.named (i .list)) with-changed (block.lowestAddress i (s .registers)) 0 k (named-rising (i .list)) kept-length h below w)
 
   base-written : i .w ≡ true → ((k : ℕ) → k < block.count i → getD (block.named (i .list)) k 16 ≢ i .rn)
-      → afterBlockLoad i g f mem (i .rn) ≡ block.changedBase i g
+      → afterBlockLoad i s (i .rn) ≡ block.changedBase i (s .registers)
   unfolding blockLoadEffect block.withBase
   base-written w n =
-      unnamed f mem (block.named (i .list)) with-changed (block.lowestAddress i g) (i .rn) n
-      ∙ pick-put (i .w) g (i .rn) (block.changedBase i g) w low l
+      unnamed (s .status) (s .memory) (block.named (i .list)) with-changed (block.lowestAddress i (s .registers)) (i .rn) n
+      ∙ pick-put (i .w) (s .registers) (i .rn) (block.changedBase i (s .registers)) w low l
 
-  block-base : BlockBase i g f mem
+  block-base : BlockBase i s
   block-base = record { loaded = base-loaded; written-back = base-written }
 
 pub own-base : OwnBase

@@ -18,20 +18,24 @@ use Rattle.condition.specs.Condition.{passes}
 use Rattle.datapath.specs.Counter.{ahead, counter}
 use Rattle.memory.specs.declared.Fetched.{Fetched}
 use Rattle.memory.specs.declared.Fetched.the-variants.{Word, Blank}
+use Rattle.memory.specs.Memory.{Memory}
 use Rattle.registers.specs.declared.Turn.{Turn}
 use Rattle.registers.specs.declared.Goes.{Goes}
 use Rattle.registers.specs.declared.Goes.the-variants.{Next, To}
 use Rattle.registers.specs.Registers.{Out, out}
-use Rattle.processing.specs.Processing.{processed, byRegister?, readsAt}
+use Rattle.registers.specs.State.{State}
+use Rattle.processing.specs.Processing.{processed, readsAt}
 use Rattle.transfer.specs.Single as single
 use Rattle.transfer.specs.Block as block
-use Rattle.stops.specs.declared.Board.{Board}
+use Rattle.stops.specs.Numbers.{noWord, otherWord}
+use Rattle.stops.specs.Rules.{ruleBroken}
+use Rattle.stops.specs.Moves.{movesOf}
+use Rattle.stops.specs.Stops.{due, movedStop, stopOf}
 use Rattle.semantics.specs.declared.Performed.{Performed}
 use Rattle.semantics.specs.Branch.{branched}
-use Rattle.semantics.specs.Effect.{effect, Left, baseThenRegister, baseThenRegisters, loadEffect, storeEffect, blockLoadEffect, blockStoreEffect, effectOf, ownSteps, refills, nextAddress}
-use Rattle.stops.specs.Stops.{stopOf, ruleBroken, movedStop, movedBy, storedBy, stopFor}
-use Rattle.semantics.specs.Perform.{Result, resultOf, performed, stoppedAt, done, effectFor, stepsFor, performs}
-use Rattle.semantics.specs.Executed.{executed}
+use Rattle.semantics.specs.Effect.{Effect, effect, Left, baseThenRegister, baseThenRegisters, loadEffect, storeEffect, blockLoadEffect, blockStoreEffect, effectOf}
+use Rattle.semantics.specs.Duration.{processingSteps, singleSteps, blockSteps, ownSteps, skippedSteps, refills, nextAddress}
+use Rattle.semantics.specs.Perform.{Result, resultOf, performed, stoppedAt, done, executed, performs}
 
 and-none : (s : ℕ) → s ≡ s + 0
 and-none s = omega arith
@@ -51,109 +55,109 @@ went-to {f = f} a steps e q =
 pub whole : {o : Out} {h : List ℕ} {t : Turn} → Left o h t → out h (t .flags) (t .goes) ≡ o
 whole {o} l = rw (l .registers, l .flags, l .goes)
 
--- an instruction at a done, from what it left
-pub finished : (a steps : ℕ) (mem : List ℕ) {p : Performed} {h : List ℕ} {f : ℕ} {t : Goes} {o : Out}
-    → p ≡ performed 0 f (nextAddress a t) (steps + refills t) → out h f t ≡ o → resultOf p h mem ≡ done a steps (effect o mem)
-finished a steps mem {p} {h} {f} {t} q e =
-    ap (λ (x : Performed). resultOf x h mem) q ∙ ap (λ (x : Out). done a steps (effect x mem)) e
+-- an instruction done, from what it left
+pub finished : (s : State) (steps : ℕ) {p : Performed} {h : List ℕ} {f : ℕ} {t : Goes} {o : Out} {mem : Memory}
+    → p ≡ performed 0 f (nextAddress (s .a) t) (steps + refills t) → out h f t ≡ o → resultOf p h mem ≡ done s steps (effect o mem)
+finished s steps {p} {h} {f} {t} {mem = mem} q e =
+    ap (λ (x : Performed). resultOf x h mem) q ∙ ap (λ (x : Out). done s steps (effect x mem)) e
 
-module _ (i : Single) (g : List ℕ) (f : ℕ) (mem : List ℕ) {h : List ℕ} where
-  pub load-done : (a : ℕ) {base address value : ℕ} {p : Performed} {f₂ : ℕ} {t : Goes}
-      → base ≡ single.changedBase i g f (ahead a 8) → address ≡ single.addressOf i g f (ahead a 8) → value ≡ single.loadedValue i mem address
-      → p ≡ performed 0 f₂ (nextAddress a t) (3 + refills t) → out h f₂ t ≡ baseThenRegister i g f base value
-      → resultOf p h mem ≡ done a 3 (loadEffect i g f a mem)
+-- in so many own steps
+module _ (s : State) (steps : ℕ) {p : Performed} {h : List ℕ} where
+  pub load-done : (i : Single) {base address value : ℕ} {f₂ : ℕ} {t : Goes}
+      → base ≡ single.changedBase i (s .registers) (s .status) (ahead (s .a) 8) → address ≡ single.addressOf i (s .registers) (s .status) (ahead (s .a) 8) → value ≡ single.loadedValue i (s .memory) address
+      → p ≡ performed 0 f₂ (nextAddress (s .a) t) (steps + refills t) → out h f₂ t ≡ baseThenRegister i (s .registers) (s .status) base value
+      → resultOf p h (s .memory) ≡ done s steps (loadEffect i s)
   unfolding loadEffect
-  load-done a b d v q e = finished a 3 mem {o = loadEffect i g f a mem .out} q (e ∙ rw (v, d, b))
+  load-done i b d v q e = finished s steps {o = loadEffect i s .out} q (e ∙ rw (v, d, b))
 
-  pub store-done : (a : ℕ) {p : Performed} {new : List ℕ} → h ≡ storeEffect i g f a mem .out .registers → new ≡ storeEffect i g f a mem .memory
-      → p ≡ performed 0 f (ahead a 4) 2 → resultOf p h new ≡ done a 2 (storeEffect i g f a mem)
+  pub store-done : (i : Single) {new : Memory} → h ≡ storeEffect i s .out .registers → new ≡ storeEffect i s .memory
+      → p ≡ performed 0 (s .status) (ahead (s .a) 4) steps → resultOf p h new ≡ done s steps (storeEffect i s)
   unfolding storeEffect
-  store-done a w n q = rw (q, w, n)
+  store-done i w n q = rw (went-on {t = Next} (s .a) steps refl q, w, n)
 
-module _ (i : Block) (g : List ℕ) (f a : ℕ) (mem : List ℕ) {p : Performed} {h : List ℕ} {n : ℕ} where
-  pub block-load-done : {base lowest : ℕ} {f₂ : ℕ} {t : Goes} → n ≡ block.count i → lowest ≡ block.lowestAddress i g → base ≡ block.changedBase i g
-      → p ≡ performed 0 f₂ (nextAddress a t) (n + 2 + refills t) → out h f₂ t ≡ baseThenRegisters i g f base lowest mem
-      → resultOf p h mem ≡ done a (block.count i + 2) (blockLoadEffect i g f mem)
+  pub block-load-done : (i : Block) {base lowest : ℕ} {f₂ : ℕ} {t : Goes} → lowest ≡ block.lowestAddress i (s .registers) → base ≡ block.changedBase i (s .registers)
+      → p ≡ performed 0 f₂ (nextAddress (s .a) t) (steps + refills t) → out h f₂ t ≡ baseThenRegisters i (s .registers) (s .status) base lowest (s .memory)
+      → resultOf p h (s .memory) ≡ done s steps (blockLoadEffect i s)
   unfolding blockLoadEffect
-  block-load-done c l b q e = finished a (block.count i + 2) mem {o = blockLoadEffect i g f mem .out} (rw c at q) (e ∙ rw (l, b))
+  block-load-done i l b q e = finished s steps {o = blockLoadEffect i s .out} q (e ∙ rw (l, b))
 
-  pub block-store-done : {new : List ℕ} → n ≡ block.count i → h ≡ blockStoreEffect i g f a mem .out .registers → new ≡ blockStoreEffect i g f a mem .memory
-      → p ≡ performed 0 f (ahead a 4) (n + 1) → resultOf p h new ≡ done a (block.count i + 1) (blockStoreEffect i g f a mem)
+  pub block-store-done : (i : Block) {new : Memory} → h ≡ blockStoreEffect i s .out .registers → new ≡ blockStoreEffect i s .memory
+      → p ≡ performed 0 (s .status) (ahead (s .a) 4) steps → resultOf p h new ≡ done s steps (blockStoreEffect i s)
   unfolding blockStoreEffect
-  block-store-done c w e q = rw (went-on {t = Next} a (n + 1) refl q, w, e, c)
+  block-store-done i w e q = rw (went-on {t = Next} (s .a) steps refl q, w, e)
 
 -- ---- a passing condition: stopped, or done
 
-module _ (i : Instruction) (g : List ℕ) (f a : ℕ) (mem : List ℕ) (board : Board) {s : ℕ} (e : s ≡ stopOf i g f a board) where
-  pub executed-stop : {p : Performed} → (s ≡ 0 → ⊥) → p ≡ stoppedAt s f a → resultOf p g mem ≡ executed i g f a mem board
+module _ (i : Instruction) (s : State) {q : ℕ} (e : q ≡ stopOf i s) where
+  pub executed-stop : {p : Performed} → (q ≡ 0 → ⊥) → p ≡ stoppedAt q (s .status) (s .a) → resultOf p (s .registers) (s .memory) ≡ executed i s
   unfolding executed
-  executed-stop n q = rw (nonzero-by e n, q, e)
+  executed-stop n d = rw (nonzero-by e n, d, e)
 
-  pub executed-done : s ≡ 0 → {r : Result} → r ≡ done a (ownSteps i g) (effectOf i g f a mem) → r ≡ executed i g f a mem board
+  pub executed-done : q ≡ 0 → {r : Result} → r ≡ done s (ownSteps i (s .registers)) (effectOf i s) → r ≡ executed i s
   unfolding executed
-  executed-done z q = q ∙ rw (zero-by e z)
+  executed-done z d = d ∙ rw (zero-by e z)
 
-pub single-load : (i : Single) (g : List ℕ) (f a : ℕ) (mem : List ℕ) → i .l ≡ true
-    → done a 3 (loadEffect i g f a mem) ≡ done a (ownSteps (Instruction.Single i) g) (effectOf (Instruction.Single i) g f a mem)
+module _ (i : Single) (s : State) where
+  abbrev single-done : Effect → Result
+  single-done = done s (ownSteps (Instruction.Single i) (s .registers))
+
+  pub single-load : i .l ≡ true → done s (singleSteps i) (loadEffect i s) ≡ single-done (effectOf (Instruction.Single i) s)
+  unfolding ownSteps effectOf
+  single-load e = rw e
+
+  pub single-store : i .l ≡ false → done s (singleSteps i) (storeEffect i s) ≡ single-done (effectOf (Instruction.Single i) s)
+  unfolding ownSteps effectOf
+  single-store e = rw e
+
+module _ (i : Block) (s : State) where
+  abbrev block-done : Effect → Result
+  block-done = done s (ownSteps (Instruction.Block i) (s .registers))
+
+  pub block-load : i .l ≡ true → done s (blockSteps i) (blockLoadEffect i s) ≡ block-done (effectOf (Instruction.Block i) s)
+  unfolding ownSteps effectOf
+  block-load e = rw e
+
+  pub block-store : i .l ≡ false → done s (blockSteps i) (blockStoreEffect i s) ≡ block-done (effectOf (Instruction.Block i) s)
+  unfolding ownSteps effectOf
+  block-store e = rw e
+
+pub processing-done : (i : Processing) (s : State) {steps pc : ℕ} {p : Performed} {h : List ℕ} {f₂ : ℕ} {t : Goes}
+    → steps ≡ processingSteps i → pc ≡ readsAt i (s .a) → p ≡ performed 0 f₂ (nextAddress (s .a) t) (steps + refills t) → out h f₂ t ≡ processed i (s .registers) (s .status) pc
+    → resultOf p h (s .memory) ≡ done s (ownSteps (Instruction.Processing i) (s .registers)) (effectOf (Instruction.Processing i) s)
 unfolding ownSteps effectOf
-single-load i g f a mem e = rw e
+processing-done i s {steps} n c q o = rw (← n) (finished s steps {o = effectOf (Instruction.Processing i) s .out} q (o ∙ rw c))
 
-pub single-store : (i : Single) (g : List ℕ) (f a : ℕ) (mem : List ℕ) → i .l ≡ false
-    → done a 2 (storeEffect i g f a mem) ≡ done a (ownSteps (Instruction.Single i) g) (effectOf (Instruction.Single i) g f a mem)
-unfolding ownSteps effectOf
-single-store i g f a mem e = rw e
+pub branch-done : (i : Branch) (s : State) {p : Performed} {h : List ℕ} {f₂ : ℕ} {t : Goes}
+    → p ≡ performed 0 f₂ (nextAddress (s .a) t) (1 + refills t) → out h f₂ t ≡ branched i (s .registers) (s .status) (s .a)
+    → resultOf p h (s .memory) ≡ executed (Instruction.Branch i) s
+unfolding executed stopOf ruleBroken movedStop movesOf ownSteps effectOf
+branch-done i s q o = finished s 1 q o
 
-pub block-load : (i : Block) (g : List ℕ) (f a : ℕ) (mem : List ℕ) → i .l ≡ true
-    → done a (block.count i + 2) (blockLoadEffect i g f mem) ≡ done a (ownSteps (Instruction.Block i) g) (effectOf (Instruction.Block i) g f a mem)
-unfolding ownSteps effectOf
-block-load i g f a mem e = rw e
-
-pub block-store : (i : Block) (g : List ℕ) (f a : ℕ) (mem : List ℕ) → i .l ≡ false
-    → done a (block.count i + 1) (blockStoreEffect i g f a mem) ≡ done a (ownSteps (Instruction.Block i) g) (effectOf (Instruction.Block i) g f a mem)
-unfolding ownSteps effectOf
-block-store i g f a mem e = rw e
-
-pub processing-done : (i : Processing) (g : List ℕ) (f a : ℕ) (mem : List ℕ) {pc : ℕ} {b : Bool} {n : ℕ} {p : Performed} {h : List ℕ} {f₂ : ℕ} {t : Goes}
-    → b ≡ byRegister? (i .operand) → n ≡ pick b 2 1 → pc ≡ readsAt i a → p ≡ performed 0 f₂ (nextAddress a t) (n + refills t) → out h f₂ t ≡ processed i g f pc
-    → resultOf p h mem ≡ done a (ownSteps (Instruction.Processing i) g) (effectOf (Instruction.Processing i) g f a mem)
-unfolding ownSteps effectOf
-processing-done i g f a mem {n = n} e m c q o =
-    finished a n mem q o ∙ rw (c, m, e)
-
-pub branch-done : (i : Branch) (g : List ℕ) (f a : ℕ) (mem : List ℕ) (board : Board) {p : Performed} {h : List ℕ} {f₂ : ℕ} {t : Goes}
-    → p ≡ performed 0 f₂ (nextAddress a t) (1 + refills t) → out h f₂ t ≡ branched i g f a → resultOf p h mem ≡ executed (Instruction.Branch i) g f a mem board
-unfolding executed stopOf ruleBroken movedStop movedBy storedBy ownSteps effectOf
-branch-done i g f a mem board q o = finished a 1 mem q o
-
-pub other-stop : (w : ℕ) (g : List ℕ) (f a : ℕ) (mem : List ℕ) (board : Board) {p : Performed}
-    → p ≡ stoppedAt 22 f a → resultOf p g mem ≡ executed (Instruction.Other w) g f a mem board
+pub other-stop : (w : ℕ) (s : State) {p : Performed} → p ≡ stoppedAt otherWord (s .status) (s .a) → resultOf p (s .registers) (s .memory) ≡ executed (Instruction.Other w) s
 unfolding executed stopOf
-other-stop w g f a mem board q = ap (λ (x : Performed). resultOf x g mem) q
+other-stop w s q = ap (λ (x : Performed). resultOf x (s .registers) (s .memory)) q
+
+-- an instruction that is read from a word
+pub read-as : {i j : Instruction} (s : State) {r : Result} → i ≡ j → r ≡ executed i s → r ≡ executed j s
+read-as s e q = q ∙ ap (λ i. executed i s) e
 
 -- ---- a word: its condition passes, or fails
 
-module _ (w : ℕ) (g : List ℕ) (f a : ℕ) (mem : List ℕ) (board : Board) where
-  pub passing : {r : Result} → passes (field w 28 4) f ≡ true → r ≡ executed (readOf w) g f a mem board → r ≡ performs (Word w) g f a mem board
-  unfolding performs stopFor effectFor stepsFor executed
+module _ (w : ℕ) (s : State) where
+  pub passing : {r : Result} → passes (field w 28 4) (s .status) ≡ true → r ≡ executed (readOf w) s → r ≡ performs (Word w) s
+  unfolding performs due
   passing p e = e ∙ rw p
 
-  pub failing : {p : Performed} → passes (field w 28 4) f ≡ false → p ≡ performed 0 f (ahead a 4) (stepsFor (Word w) g f)
-      → resultOf p g mem ≡ performs (Word w) g f a mem board
-  unfolding performs stopFor effectFor stepsFor
+  pub failing : {p : Performed} → passes (field w 28 4) (s .status) ≡ false → p ≡ performed 0 (s .status) (ahead (s .a) 4) skippedSteps
+      → resultOf p (s .registers) (s .memory) ≡ performs (Word w) s
+  unfolding performs due
   failing e q = rw (q, e)
-
--- an instruction that is read from a word
-pub read-as : {i j : Instruction} (g : List ℕ) (f a : ℕ) (mem : List ℕ) (board : Board) {r : Result}
-    → i ≡ j → r ≡ executed i g f a mem board → r ≡ executed j g f a mem board
-read-as g f a mem board e q = q ∙ ap (λ i. executed i g f a mem board) e
 
 -- ---- what was fetched
 
-pub fetched-as : {x y : Fetched} (g : List ℕ) (f a : ℕ) (mem : List ℕ) (board : Board) {r : Result}
-    → x ≡ y → r ≡ performs y g f a mem board → r ≡ performs x g f a mem board
-fetched-as g f a mem board e q = q ∙ ap (λ x. performs x g f a mem board) (sym e)
+pub fetched-as : {x y : Fetched} (s : State) {r : Result} → x ≡ y → r ≡ performs y s → r ≡ performs x s
+fetched-as s e q = q ∙ ap (λ x. performs x s) (sym e)
 
-pub blank-stop : (g : List ℕ) (f a : ℕ) (mem : List ℕ) (board : Board) {p : Performed}
-    → p ≡ stoppedAt 21 f a → resultOf p g mem ≡ performs Blank g f a mem board
-unfolding performs stopFor
-blank-stop g f a mem board q = ap (λ (x : Performed). resultOf x g mem) q
+pub blank-stop : (s : State) {p : Performed} → p ≡ stoppedAt noWord (s .status) (s .a) → resultOf p (s .registers) (s .memory) ≡ performs Blank s
+unfolding performs due
+blank-stop s q = ap (λ (x : Performed). resultOf x (s .registers) (s .memory)) q

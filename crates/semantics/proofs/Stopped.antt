@@ -3,34 +3,37 @@
 use Prim.Native.Nat.{ℕ}
 use mathlib.Core.Path.{_≡_, refl, sym}
 use mathlib.Core.Bool.{Bool, true, false}
-use mathlib.Core.List.{List}
 use mathlib.Core.Logic.{_≢_}
 use lib.Dec.{eqb}
 use borrow.Author.Tests.{ne-eqb, eqb-true}
 use Rattle.bits.specs.Choice.{pick}
+use Rattle.word.specs.declared.Instruction.{Instruction}
 use Rattle.memory.specs.declared.Fetched.{Fetched}
-use Rattle.stops.specs.declared.Board.{Board}
-use Rattle.stops.specs.Stops.{stopFor}
-use Rattle.semantics.specs.Effect.{Effect}
-use Rattle.semantics.specs.Perform.{resultOf, done, stoppedAt, effectFor, stepsFor, resultFor, performs}
+use Rattle.registers.specs.State.{State}
+use Rattle.stops.specs.Stops.{Due, no-word, skipped, executes, due, stopOf, stopDue, stopFor}
+use Rattle.semantics.specs.Perform.{Result, stopped, executed, performedDue, performs}
 use Rattle.semantics.specs.Stopped.{Unchanged, Stopped}
 
-module _ (g : List ℕ) (f a : ℕ) (mem : List ℕ) (steps : ℕ) (e : Effect) (q : ℕ) where
-  stop : resultFor q g f a mem steps e .performed .stop ≡ q
-  stop = go (eqb q 0) refl
+module _ (s : State) where
+  same : (q : ℕ) → Unchanged (stopped q s) s
+  same q = record { registers = refl; flags = refl; address = refl; memory = refl; cycles = refl }
+
+  stop : (d : Due) → performedDue d s .performed .stop ≡ stopDue d s
+  unfolding executed
+  stop no-word = refl
+  stop skipped = refl
+  stop (executes i) = go (eqb (stopOf i s) 0) refl
     where
-      go : (b : Bool) → eqb q 0 ≡ b → pick b (done a steps e) (resultOf (stoppedAt q f a) g mem) .performed .stop ≡ q
-      go true t = sym (eqb-true q 0 t)
-      go false t = refl
+      go : (b : Bool) → eqb (stopOf i s) 0 ≡ b → executed i s .performed .stop ≡ stopOf i s
+      go true t = rw (t, eqb-true (stopOf i s) 0 t)
+      go false t = rw t
 
-  unchanged : q ≢ 0 → Unchanged (resultFor q g f a mem steps e) g f a mem
-  unchanged n =
-      let b : eqb q 0 ≡ false = ne-eqb q 0 n in
-      record { registers = rw b refl; flags = rw b refl; address = rw b refl; memory = rw b refl; cycles = rw b refl }
+  unchanged : (d : Due) → stopDue d s ≢ 0 → Unchanged (performedDue d s) s
+  unfolding executed
+  unchanged no-word n = same _
+  unchanged skipped n = absurd (n refl)
+  unchanged (executes i) n = rw (ne-eqb (stopOf i s) 0 n) (same (stopOf i s))
 
-pub stopped : (x : Fetched) (g : List ℕ) (f a : ℕ) (mem : List ℕ) (board : Board) → Stopped x g f a mem board
-unfolding performs
-stopped x g f a mem board = record {
-  stop = stop g f a mem (stepsFor x g f) (effectFor x g f a mem) (stopFor x g f a board);
-  unchanged = unchanged g f a mem (stepsFor x g f) (effectFor x g f a mem) (stopFor x g f a board);
-}
+pub stopped-unchanged : (x : Fetched) (s : State) → Stopped x s
+unfolding performs stopFor
+stopped-unchanged x s = record { stop = stop s (due x (s .status)); unchanged = unchanged s (due x (s .status)) }

@@ -1,7 +1,7 @@
 pub mod Branch
 pub mod Effect
 pub mod Perform
-pub mod Executed
+pub mod Duration
 pub mod Marked
 pub mod BranchOffsets
 pub mod OwnBase

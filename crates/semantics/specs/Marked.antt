@@ -8,13 +8,18 @@ use lib.ListN.{length, replicate}
 use Rattle.bits.specs.Bits.{bit, num}
 use Rattle.datapath.specs.Alu.{carryOf, overflowOf}
 use Rattle.memory.specs.declared.Fetched.the-variants.{Word}
-use Rattle.memory.specs.Memory.{readWord}
+use Rattle.memory.specs.Memory.{Memory, memoryOf, readWord}
+use Rattle.registers.specs.State.{state}
 use Rattle.registers.specs.Registers.{register}
 use Rattle.semantics.specs.Perform.{Result, performs}
 
+-- bytes on a board of their size
+abbrev pub lent : List ℕ → Memory
+lent mem = memoryOf (record { size = length mem }) mem
+
 -- a word at an address, with a value in R1 and 0 in the other registers
 abbrev pub performedAt : ℕ → ℕ → ℕ → ℕ → List ℕ → Result
-performedAt a word r1 f mem = performs (Word word) (0 ∷ r1 ∷ replicate 13 0) f a mem (record { length = length mem })
+performedAt a word r1 f mem = performs (Word word) (state (0 ∷ r1 ∷ replicate 13 0) f a (lent mem))
 
 -- a memory of zeros, long enough for every address below
 abbrev pub zeros : List ℕ
@@ -22,7 +27,7 @@ zeros = replicate 0x110 0
 
 -- a word at 0, with values in R1 and R2 and 0 in the other registers
 abbrev pub processedWord : ℕ → ℕ → ℕ → ℕ → Result
-processedWord word r1 r2 f = performs (Word word) (0 ∷ r1 ∷ r2 ∷ replicate 12 0) f 0 zeros (record { length = length zeros })
+processedWord word r1 r2 f = performs (Word word) (state (0 ∷ r1 ∷ r2 ∷ replicate 12 0) f 0 (lent zeros))
 
 -- R0 and the flags afterwards
 pub record Leaves (r : Result) (r0 f : ℕ) : Type 0 where

@@ -4,36 +4,39 @@ ghost use mathlib.Core.List.{List};
 ghost use Prim.Native.Nat.{ℕ, _+_, _≤_};
 ghost use Rattle.word.specs.declared.Instruction.{Instruction};
 ghost use Rattle.word.specs.Reader.{readOf};
-ghost use Rattle.transfer.specs.Block.{count, named, loads};
+ghost use Rattle.transfer.specs.Block.{named, loads};
 ghost use Rattle.datapath.specs.Counter.{ahead};
-ghost use Rattle.stops.specs.declared.Board.{Board};
 ghost use Rattle.memory.specs.declared.Fetched.{Fetched};
-ghost use Rattle.memory.specs.Memory.{wordAt};
+ghost use Rattle.memory.specs.Memory.{Memory, memoryOf, wordAt};
 ghost use Rattle.registers.specs.Registers.{arrives};
-ghost use Rattle.semantics.specs.Effect.{nextAddress, refills, Left, baseThenRegister, baseThenRegisters, loadEffect, storeEffect, blockLoadEffect, blockStoreEffect};
-ghost use Rattle.semantics.specs.Perform.{resultOf, performed, stoppedAt, done, performs};
-ghost use Rattle.semantics.specs.Executed.{executed};
+ghost use Rattle.registers.specs.State.{state};
+ghost use Rattle.semantics.specs.Effect.{Left, baseThenRegister, baseThenRegisters, loadEffect, storeEffect, blockLoadEffect, blockStoreEffect};
+ghost use Rattle.semantics.specs.Duration.{singleSteps, blockSteps, refills, nextAddress};
+ghost use Rattle.semantics.specs.Perform.{resultOf, performed, stoppedAt, done, executed, performs};
 use crate::Performed;
 use crate::branch::branch;
+use crate::own_steps::block_steps;
+use crate::own_steps::processing_steps;
+use crate::own_steps::single_steps;
 use bits::bit;
 use bits::field;
 use condition::passes;
 use datapath::counter::ahead;
 use datapath::counter::counter;
+use memory::Board;
 use memory::Fetched;
 use memory::fetch;
 use processing::process;
 use processing::reads_at;
-use processing::shifts_by_register;
 use registers::Goes;
 use registers::Turn;
 use registers::arrive;
-use stops::Board;
+use stops::NO_WORD;
+use stops::OTHER_WORD;
 use stops::stop::block_stop;
 use stops::stop::processing_stop;
 use stops::stop::single_stop;
 use transfer::block;
-use transfer::named::count;
 use transfer::single;
 use word::Block;
 use word::Branch;
@@ -83,19 +86,14 @@ fn stopped(stop: u32, flags: u32, a: u32) -> Performed
 }
 
 fn perform_processing(i: Processing, registers: &mut [u32; 15], flags: u32, a: u32) -> Performed
-    ensures { λ r. ⌜ ((mem : List ℕ) (board : Board) → resultOf r (now (registers .exit)) mem ≡ executed (Instruction.Processing i) (now (registers .entry)) flags a mem board) ⌝ }
+    ensures { λ r. ⌜ ((mem : Memory) → resultOf r (now (registers .exit)) mem ≡ executed (Instruction.Processing i) (state (now (registers .entry)) flags a mem)) ⌝ }
 {
-    let stop = processing_stop(i);
+    let stop = processing_stop(i, registers, flags, a);
     if stop != 0 {
         return stopped(stop, flags, a);
     }
-    let o = i.operand;
-    let t = process(i, registers, flags, reads_at(i, a));
-    if shifts_by_register(o) {
-        done(a, 2, t)
-    } else {
-        done(a, 1, t)
-    }
+    let steps = processing_steps(i);
+    done(a, steps, process(i, registers, flags, reads_at(i, a)))
 }
 
 // `arrive`, with each part of what it leaves told by itself.
@@ -119,24 +117,49 @@ fn base_then_register(
     arrived(registers, flags, i.rd, value)
 }
 
-fn load(i: Single, registers: &mut [u32; 15], memory: &[u8], flags: u32, a: u32) -> Performed
-    ensures { λ r. ⌜ resultOf r (now (registers .exit)) (now (memory .entry)) ≡ done a 3 (loadEffect i (now (registers .entry)) flags a (now (memory .entry))) ⌝ }
+fn load(
+    i: Single,
+    registers: &mut [u32; 15],
+    memory: &[u8],
+    flags: u32,
+    a: u32,
+    board: Board,
+) -> Performed
+    ensures { λ r. ⌜ resultOf r (now (registers .exit)) (memoryOf board (now (memory .entry))) ≡ done (state (now (registers .entry)) flags a (memoryOf board (now (memory .entry)))) (singleSteps i) (loadEffect i (state (now (registers .entry)) flags a (memoryOf board (now (memory .entry))))) ⌝ }
 {
     let pc = ahead(a, 8);
     let base = single::changed_base(i, registers, flags, pc);
-    let value = single::loaded_value(i, memory, single::address(i, registers, flags, pc));
-    done(a, 3, base_then_register(i, registers, flags, base, value))
+    let value = single::loaded_value(i, memory, board, single::address(i, registers, flags, pc));
+    let steps = single_steps(i);
+    done(
+        a,
+        steps,
+        base_then_register(i, registers, flags, base, value),
+    )
 }
 
-fn store(i: Single, registers: &mut [u32; 15], memory: &mut [u8], flags: u32, a: u32) -> Performed
-    ensures { λ r. ⌜ resultOf r (now (registers .exit)) (now (memory .exit)) ≡ done a 2 (storeEffect i (now (registers .entry)) flags a (now (memory .entry))) ⌝ }
+fn store(
+    i: Single,
+    registers: &mut [u32; 15],
+    memory: &mut [u8],
+    flags: u32,
+    a: u32,
+    board: Board,
+) -> Performed
+    ensures { λ r. ⌜ resultOf r (now (registers .exit)) (memoryOf board (now (memory .exit))) ≡ done (state (now (registers .entry)) flags a (memoryOf board (now (memory .entry)))) (singleSteps i) (storeEffect i (state (now (registers .entry)) flags a (memoryOf board (now (memory .entry))))) ⌝ }
 {
     let pc = ahead(a, 8);
     let base = single::changed_base(i, registers, flags, pc);
     let value = single::stored_value(registers, i.rd, flags, ahead(a, 12));
-    single::store(i, memory, single::address(i, registers, flags, pc), value);
+    single::store(
+        i,
+        memory,
+        board,
+        single::address(i, registers, flags, pc),
+        value,
+    );
     single::write_base(i, registers, base);
-    went_on(a, 2, flags)
+    went_on(a, single_steps(i), flags)
 }
 
 fn perform_single(
@@ -147,24 +170,31 @@ fn perform_single(
     a: u32,
     board: Board,
 ) -> Performed
-    ensures { λ r. ⌜ resultOf r (now (registers .exit)) (now (memory .exit)) ≡ executed (Instruction.Single i) (now (registers .entry)) flags a (now (memory .entry)) board ⌝ }
+    ensures { λ r. ⌜ resultOf r (now (registers .exit)) (memoryOf board (now (memory .exit))) ≡ executed (Instruction.Single i) (state (now (registers .entry)) flags a (memoryOf board (now (memory .entry)))) ⌝ }
 {
     let stop = single_stop(i, registers, flags, a, board);
     if stop != 0 {
         return stopped(stop, flags, a);
     }
     if i.l {
-        load(i, registers, memory, flags, a)
+        load(i, registers, memory, flags, a, board)
     } else {
-        store(i, registers, memory, flags, a)
+        store(i, registers, memory, flags, a, board)
     }
 }
 
 // `block::load`, with each part of what it leaves told by itself.
-fn loaded(list: u32, registers: &mut [u32; 15], flags: u32, lowest: u32, memory: &[u8]) -> Turn
-    ensures { λ r. ⌜ Left (loads (named list) (now (registers .entry)) flags lowest (now (memory .entry))) (now (registers .exit)) r ⌝ }
+fn loaded(
+    list: u32,
+    registers: &mut [u32; 15],
+    flags: u32,
+    lowest: u32,
+    memory: &[u8],
+    board: Board,
+) -> Turn
+    ensures { λ r. ⌜ Left (loads (named list) (now (registers .entry)) flags lowest (memoryOf board (now (memory .entry)))) (now (registers .exit)) r ⌝ }
 {
-    block::load(list, registers, flags, lowest, memory)
+    block::load(list, registers, flags, lowest, memory, board)
 }
 
 // The base, then the registers: a loaded base wins.
@@ -175,23 +205,31 @@ fn base_then_registers(
     flags: u32,
     changed: u32,
     lowest: u32,
+    board: Board,
 ) -> Turn
-    ensures { λ r. ⌜ Left (baseThenRegisters i (now (registers .entry)) flags changed lowest (now (memory .entry))) (now (registers .exit)) r ⌝ }
+    ensures { λ r. ⌜ Left (baseThenRegisters i (now (registers .entry)) flags changed lowest (memoryOf board (now (memory .entry)))) (now (registers .exit)) r ⌝ }
 {
     block::write_base(i, registers, changed);
-    loaded(i.list, registers, flags, lowest, memory)
+    loaded(i.list, registers, flags, lowest, memory, board)
 }
 
-fn load_block(i: Block, registers: &mut [u32; 15], memory: &[u8], flags: u32, a: u32) -> Performed
-    ensures { λ r. ⌜ resultOf r (now (registers .exit)) (now (memory .entry)) ≡ done a (count i + 2) (blockLoadEffect i (now (registers .entry)) flags (now (memory .entry))) ⌝ }
+fn load_block(
+    i: Block,
+    registers: &mut [u32; 15],
+    memory: &[u8],
+    flags: u32,
+    a: u32,
+    board: Board,
+) -> Performed
+    ensures { λ r. ⌜ resultOf r (now (registers .exit)) (memoryOf board (now (memory .entry))) ≡ done (state (now (registers .entry)) flags a (memoryOf board (now (memory .entry)))) (blockSteps i) (blockLoadEffect i (state (now (registers .entry)) flags a (memoryOf board (now (memory .entry))))) ⌝ }
 {
     let lowest = block::lowest_address(i, registers);
     let base = block::changed_base(i, registers);
-    let n = count(i.list);
+    let steps = block_steps(i);
     done(
         a,
-        n + 2,
-        base_then_registers(i, registers, memory, flags, base, lowest),
+        steps,
+        base_then_registers(i, registers, memory, flags, base, lowest, board),
     )
 }
 
@@ -201,12 +239,12 @@ fn store_block(
     memory: &mut [u8],
     flags: u32,
     a: u32,
+    board: Board,
 ) -> Performed
-    ensures { λ r. ⌜ resultOf r (now (registers .exit)) (now (memory .exit)) ≡ done a (count i + 1) (blockStoreEffect i (now (registers .entry)) flags a (now (memory .entry))) ⌝ }
+    ensures { λ r. ⌜ resultOf r (now (registers .exit)) (memoryOf board (now (memory .exit))) ≡ done (state (now (registers .entry)) flags a (memoryOf board (now (memory .entry)))) (blockSteps i) (blockStoreEffect i (state (now (registers .entry)) flags a (memoryOf board (now (memory .entry))))) ⌝ }
 {
-    let n = count(i.list);
-    block::store_all(i, registers, flags, ahead(a, 12), memory);
-    went_on(a, n + 1, flags)
+    block::store_all(i, registers, flags, ahead(a, 12), memory, board);
+    went_on(a, block_steps(i), flags)
 }
 
 fn perform_block(
@@ -217,21 +255,21 @@ fn perform_block(
     a: u32,
     board: Board,
 ) -> Performed
-    ensures { λ r. ⌜ resultOf r (now (registers .exit)) (now (memory .exit)) ≡ executed (Instruction.Block i) (now (registers .entry)) flags a (now (memory .entry)) board ⌝ }
+    ensures { λ r. ⌜ resultOf r (now (registers .exit)) (memoryOf board (now (memory .exit))) ≡ executed (Instruction.Block i) (state (now (registers .entry)) flags a (memoryOf board (now (memory .entry)))) ⌝ }
 {
     let stop = block_stop(i, registers, flags, a, board);
     if stop != 0 {
         return stopped(stop, flags, a);
     }
     if i.l {
-        load_block(i, registers, memory, flags, a)
+        load_block(i, registers, memory, flags, a, board)
     } else {
-        store_block(i, registers, memory, flags, a)
+        store_block(i, registers, memory, flags, a, board)
     }
 }
 
 fn perform_branch(i: Branch, registers: &mut [u32; 15], flags: u32, a: u32) -> Performed
-    ensures { λ r. ⌜ ((mem : List ℕ) (board : Board) → resultOf r (now (registers .exit)) mem ≡ executed (Instruction.Branch i) (now (registers .entry)) flags a mem board) ⌝ }
+    ensures { λ r. ⌜ ((mem : Memory) → resultOf r (now (registers .exit)) mem ≡ executed (Instruction.Branch i) (state (now (registers .entry)) flags a mem)) ⌝ }
 {
     done(a, 1, branch(i, registers, flags, a))
 }
@@ -245,13 +283,13 @@ fn execute(
     a: u32,
     board: Board,
 ) -> Performed
-    ensures { λ r. ⌜ resultOf r (now (registers .exit)) (now (memory .exit)) ≡ executed (readOf word) (now (registers .entry)) flags a (now (memory .entry)) board ⌝ }
+    ensures { λ r. ⌜ resultOf r (now (registers .exit)) (memoryOf board (now (memory .exit))) ≡ executed (readOf word) (state (now (registers .entry)) flags a (memoryOf board (now (memory .entry)))) ⌝ }
 {
     match reader::class(word) {
         0 => {
             if bit(word, 4) {
                 if bit(word, 7) {
-                    stopped(22, flags, a)
+                    stopped(OTHER_WORD, flags, a)
                 } else {
                     perform_processing(
                         reader::processing(word, reader::by_register(word)),
@@ -285,7 +323,7 @@ fn execute(
         ),
         3 => {
             if bit(word, 4) {
-                stopped(22, flags, a)
+                stopped(OTHER_WORD, flags, a)
             } else {
                 perform_single(
                     reader::single(word, reader::by_amount(word)),
@@ -299,7 +337,7 @@ fn execute(
         }
         4 => perform_block(reader::block(word), registers, memory, flags, a, board),
         5 => perform_branch(reader::branch(word), registers, flags, a),
-        _ => stopped(22, flags, a),
+        _ => stopped(OTHER_WORD, flags, a),
     }
 }
 
@@ -311,7 +349,7 @@ pub fn perform(
     a: u32,
     board: Board,
 ) -> Performed
-    ensures { λ r. ⌜ resultOf r (now (registers .exit)) (now (memory .exit)) ≡ performs (Fetched.Word word) (now (registers .entry)) flags a (now (memory .entry)) board ⌝ }
+    ensures { λ r. ⌜ resultOf r (now (registers .exit)) (memoryOf board (now (memory .exit))) ≡ performs (Fetched.Word word) (state (now (registers .entry)) flags a (memoryOf board (now (memory .entry)))) ⌝ }
 {
     if passes(field(word, 28, 4), flags) {
         execute(word, registers, memory, flags, a, board)
@@ -328,10 +366,10 @@ pub fn perform_at(
     a: u32,
     board: Board,
 ) -> Performed
-    ensures { λ r. ⌜ resultOf r (now (registers .exit)) (now (memory .exit)) ≡ performs (wordAt (now (memory .entry)) a) (now (registers .entry)) flags a (now (memory .entry)) board ⌝ }
+    ensures { λ r. ⌜ resultOf r (now (registers .exit)) (memoryOf board (now (memory .exit))) ≡ performs (wordAt (memoryOf board (now (memory .entry))) a) (state (now (registers .entry)) flags a (memoryOf board (now (memory .entry)))) ⌝ }
 {
-    match fetch(memory, a) {
+    match fetch(memory, board, a) {
         Fetched::Word(word) => perform(word, registers, memory, flags, a, board),
-        Fetched::Blank => stopped(21, flags, a),
+        Fetched::Blank => stopped(NO_WORD, flags, a),
     }
 }

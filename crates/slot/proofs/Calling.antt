@@ -1,25 +1,24 @@
 -- What a call leaves, from what the functions that it calls ensure. Assumes nothing.
-use Prim.Native.Nat.{ℕ, suc, _<_, _^_}
-use mathlib.Core.Path.{_≡_, refl, sym, ap, _∙_}
-use mathlib.Core.Bool.{Bool, true, false}
+use Prim.Native.Nat.{ℕ}
+use mathlib.Core.Path.{_≡_, sym, ap, _∙_}
+use mathlib.Core.Bool.{true, false}
 use mathlib.Core.List.{List}
 use lib.ListN.{length}
 use borrow.Author.Tests.{ne-eqb}
-use Rattle.word.specs.declared.Written.{Written}
-use Rattle.word.specs.Writer.{Answer, answerOf, writeOf}
+use Rattle.writer.specs.declared.Written.{Written}
+use Rattle.writer.specs.Writer.{Answer, answerOf, writeOf}
 use Rattle.word.specs.declared.Instruction.{Instruction}
 use Rattle.pipeline.specs.declared.Core.{Core}
-use Rattle.pipeline.specs.Machine as pipelined
-use Rattle.pipeline.specs.Numbers as numbers
-use Rattle.pipeline.specs.Run as pipeline
+use Rattle.cycle.specs.Machine as pipelined
+use Rattle.pipeline.specs.Calls as pipeline
+use Rattle.runs.specs.Run as runs
 use Rattle.plain.specs.declared.Plain.{Plain}
 use Rattle.plain.specs.Machine as unpiped
-use Rattle.plain.specs.Numbers as plainNumbers
 use Rattle.plain.specs.Run as plain
-use Rattle.slot.specs.CoreArray as coreArray
-use Rattle.slot.specs.PlainArray as plainArray
-use Rattle.slot.specs.RecordArray.{recordOf, standsForRecord}
-use Rattle.slot.specs.Calls.{Called, started, called, isRefusal, refused, unlessRefused, coreBegun, coreStart, coreCalled, coreMachine, otherLength, lengthIn, arrayRefusal, refusalOf, coreRun, plainBegun, plainStart, plainCalled, plainRun, answer, wordOf}
+use Rattle.core_arrays.specs.CoreArray as coreArray
+use Rattle.plain_arrays.specs.PlainArray as plainArray
+use Rattle.record_arrays.specs.RecordArray.{recordOf, standsForRecord}
+use Rattle.slot.specs.Calls.{Called, started, called, isRefusal, refused, unlessRefused, coreBegun, coreStart, coreCalled, coreMachine, refusalOf, coreRun, plainBegun, plainStart, plainCalled, plainRun, answer, wordOf}
 use Rattle.slot.proofs.Refusing.{core-kept, plain-kept}
 
 pub core-started : (g : List ℕ) (f e : ℕ) (mem : List ℕ) {a : ℕ} {c : Core} {p : List ℕ}
@@ -43,40 +42,31 @@ module _ (words mem : List ℕ) (r : Called) where
 module _ (words mem : List ℕ) (n : ℕ) where
   -- ---- the core's run
 
-  pub array-refused : {r : ℕ} → r ≡ refusalOf words mem → (r ≡ 0 → ⊥) → refused r words mem ≡ coreRun words mem n
+  pub array-refused : {r : ℕ} → r ≡ refusalOf words (length mem) → (r ≡ 0 → ⊥) → refused r words mem ≡ coreRun words mem n
   unfolding coreRun
   array-refused {r} e h = rw (← e, ne-eqb r 0 h)
 
-  pub array-accepted : refusalOf words mem ≡ 0
+  pub array-accepted : refusalOf words (length mem) ≡ 0
       → unlessRefused words mem (coreCalled (pipeline.run (length mem) n (coreMachine (coreArray.unpacked words) mem))) ≡ coreRun words mem n
   unfolding coreRun
   array-accepted e = rw e
 
-  -- from what was tested of the array
-  module _ {d t : Bool} {r : ℕ} (h : d ≡ otherLength (length mem) (lengthIn words)) (k : t ≡ coreArray.standsForCore words) (i : r ≡ arrayRefusal d t) where
-    refusal-is : r ≡ refusalOf words mem
-    refusal-is =
-        i ∙ (ap (λ (b : Bool). arrayRefusal b t) h ∙ ap (λ (b : Bool). arrayRefusal (otherLength (length mem) (lengthIn words)) b) k)
+  -- where the array refuses nothing: from the core that was unpacked, and what its run left
+  module _ {r : ℕ} (i : r ≡ refusalOf words (length mem)) (z : r ≡ 0) {c next : Core} {a u : ℕ} {mem' : List ℕ} (e : c ≡ coreArray.unpacked words)
+      (q : runs.ran a u (pipelined.machine (next .registers) (next .control) mem') ≡ pipeline.run (length mem) n (coreMachine c mem)) where
+    core-joined : unlessRefused words mem (called a u (coreArray.packed next) mem') ≡ coreRun words mem n
+    core-joined =
+        ap (λ (r : runs.Ran). unlessRefused words mem (coreCalled r)) q
+        ∙ (ap (λ (k : Core). unlessRefused words mem (coreCalled (pipeline.run (length mem) n (coreMachine k mem)))) e ∙ array-accepted (sym i ∙ z))
 
-    pub core-not-run : (r ≡ 0 → ⊥) → refused r words mem ≡ coreRun words mem n
-    core-not-run = array-refused refusal-is
+    pub core-refused : isRefusal a ≡ true → called a 0 words mem' ≡ coreRun words mem n
+    core-refused r =
+        let kept = core-kept (length mem) n (coreMachine c mem) (ap (λ (z : runs.Ran). isRefusal (z .answer)) (sym q) ∙ r) in
+        ap (λ (k : List ℕ). called a 0 words k) (ap (λ (z : runs.Ran). z .machine .memory) (q ∙ kept))
+        ∙ (handed-back words mem (called a u (coreArray.packed next) mem') r ∙ core-joined)
 
-    -- and from the core that was unpacked, and what its run left
-    module _ (z : r ≡ 0) {c next : Core} {a u : ℕ} {mem' : List ℕ} (e : c ≡ coreArray.unpacked words)
-        (q : pipeline.ran a u (pipelined.machine (next .registers) (next .control) mem') ≡ pipeline.run (length mem) n (coreMachine c mem)) where
-      core-joined : unlessRefused words mem (called a u (coreArray.packed next) mem') ≡ coreRun words mem n
-      core-joined =
-          ap (λ (r : pipeline.Ran). unlessRefused words mem (coreCalled r)) q
-          ∙ (ap (λ (k : Core). unlessRefused words mem (coreCalled (pipeline.run (length mem) n (coreMachine k mem)))) e ∙ array-accepted (sym refusal-is ∙ z))
-
-      pub core-refused : isRefusal a ≡ true → called a 0 words mem' ≡ coreRun words mem n
-      core-refused r =
-          let kept = core-kept (length mem) n (coreMachine c mem) (ap (λ (z : pipeline.Ran). isRefusal (z .answer)) (sym q) ∙ r) in
-          ap (λ (k : List ℕ). called a 0 words k) (ap (λ (z : pipeline.Ran). z .machine .memory) (q ∙ kept))
-          ∙ (handed-back words mem (called a u (coreArray.packed next) mem') r ∙ core-joined)
-
-      pub core-ran : {p : List ℕ} → isRefusal a ≡ false → p ≡ coreArray.packed next → called a u p mem' ≡ coreRun words mem n
-      core-ran r h = ap (λ (p : List ℕ). called a u p mem') h ∙ (left words mem (called a u (coreArray.packed next) mem') r ∙ core-joined)
+    pub core-ran : {p : List ℕ} → isRefusal a ≡ false → p ≡ coreArray.packed next → called a u p mem' ≡ coreRun words mem n
+    core-ran r h = ap (λ (p : List ℕ). called a u p mem') h ∙ (left words mem (called a u (coreArray.packed next) mem') r ∙ core-joined)
 
   -- ---- the plain machine's run
 

@@ -1,9 +1,4 @@
-pub mod Words
-pub mod CoreLaws
-pub mod PlainLaws
-pub mod RecordLaws
 pub mod Refusing
 pub mod Calling
 pub mod Refusals
 pub mod Lists
-pub mod Places

@@ -1,33 +1,21 @@
 -- Lists of C calls, proved: the array is the packed core all along, since no bad record comes up. Assumes nothing.
-use Prim.Native.Nat.{ℕ, _+_, _<_, _^_}
+use Prim.Native.Nat.{ℕ, _+_, _<_}
 use native.Mathlib.Omega.{arith}
 use mathlib.Core.Path.{_≡_, refl, sym, ap, subst, _∙_}
-use mathlib.Core.Bool.{true}
 use mathlib.Core.List.{List, [], _∷_, _++_}
 use lib.ListN.{length}
-use Rattle.memory.specs.declared.Fetched.{Fetched}
-use Rattle.memory.specs.declared.Fetched.the-variants.{Word, Blank}
-use Rattle.steps.specs.declared.Phase.the-variants.{Later}
 use Rattle.plain.specs.Starts.{Answered}
 use Rattle.pipeline.specs.declared.Core.{Core}
-use Rattle.pipeline.specs.Machine.{Machine}
-use Rattle.pipeline.specs.Run.{Ran, core, start, run}
-use Rattle.pipeline.specs.Term3.{fresh, Call, lend, call, Reply, replyOf, Accepted, Refused, Calls, no-calls, accepted, refused}
-use Rattle.pipeline.proofs.Phases.{early}
+use Rattle.cycle.specs.Machine.{Machine}
+use Rattle.pipeline.specs.Calls.{core, start, run}
+use Rattle.pipeline.specs.Term3.{fresh, Call, lend, call, Reply, replyOf, Calls, no-calls, accepted, refused}
+use Rattle.refusals.proofs.Phases.{early}
 use Rattle.pipeline.proofs.Lists.{term3}
-use Rattle.slot.specs.CoreArray.{wordIn, validity, standsForFetched, packed, unpacked, standsForCore}
+use Rattle.core_arrays.specs.CoreArray.{packed, unpacked}
+use Rattle.core_arrays.proofs.CoreLaws.{core-back, stands-packed}
 use Rattle.slot.specs.Calls.{Called, coreStart, coreCalled, coreMachine}
 use Rattle.slot.specs.Lists.{coreCall, coreReply, CoreCalls, no-core-calls, core-accepted, core-refused, CoreFollows, CoreLists}
-use Rattle.slot.proofs.CoreLaws.{core-back}
 use Rattle.slot.proofs.Refusals.{core-packed}
-
-stands-fetched : (f : Fetched) → standsForFetched (wordIn f) (validity f) ≡ true
-stands-fetched (Word w) = refl
-stands-fetched Blank = refl
-
-stands-packed : (c : Core) → standsForCore (packed c) ≡ true
-unfolding packed standsForCore
-stands-packed c = rw (stands-fetched (c .control .ir1), stands-fetched (c .control .ir2), stands-fetched (c .control .ix))
 
 abbrev coreOf : Machine → Core
 coreOf m = core (m .registers) (m .control)
@@ -57,7 +45,7 @@ module _ (g : List ℕ) (flags entry : ℕ) (mem : List ℕ) (l : length g ≡ 1
   read-back m t (cs, rs, k) =
       let left = term3 .lists g flags entry mem s cs rs m t k .leaves in
       core-back (coreOf m) (left .lengths .0 ∙ fresh-registers)
-      (λ i e. let h : i < 17 = early (m .registers) (m .control) (left .good) i e in omega arith)
+      (λ i e. let h : i < 17 = early m (left .good) i e in omega arith)
 
   one : (c : Call) (m : Machine) (t : ℕ) → Reached m t → {words : List ℕ} → words ≡ packed (coreOf m) → coreCall c words ≡ coreCalled (call c m)
   one c m t r e = ap (coreCall c) e ∙ packed-call c m (read-back m t r)

@@ -7,38 +7,43 @@ use mathlib.Core.List.{List}
 use lib.Dec.{eqb}
 use lib.ListN.{length}
 use borrow.Author.Tests.{eqb-true, eqb-false, eq-eqb, ne-eqb}
-use Rattle.pipeline.specs.Numbers as numbers
-use Rattle.pipeline.specs.Run as pipeline
+use Rattle.refusals.specs.Numbers as numbers
+use Rattle.pipeline.specs.Calls as pipeline
 use Rattle.plain.specs.Machine as unpiped
 use Rattle.plain.specs.Numbers as plainNumbers
 use Rattle.plain.specs.Run as plain
-use Rattle.slot.specs.CoreArray as coreArray
-use Rattle.slot.specs.PlainArray as plainArray
-use Rattle.slot.specs.Calls.{called, refused, coreCalled, coreMachine, refusalOf, coreRun, plainCalled, plainRun}
+use Rattle.arrays.specs.Words.{at}
+use Rattle.core_arrays.specs.CoreArray.{lengthIn}
+use Rattle.core_arrays.specs.CoreArray as coreArray
+use Rattle.core_arrays.proofs.Places as coreLayout
+use Rattle.plain_arrays.specs.PlainArray as plainArray
+use Rattle.plain_arrays.specs.Places.{plainPlace, plain-length}
+use Rattle.plain_arrays.proofs.Places as plainLayout
+use Rattle.slot.specs.Calls.{called, refused, coreCalled, coreMachine, refusalOf, coreRun, plainRun}
 use Rattle.slot.specs.Refusals.{CoreRefusals, PlainRefusals}
 use Rattle.slot.proofs.Refusing.{core-number, core-accepted, plain-number, plain-accepted}
 use Rattle.slot.proofs.Calling.{handed-back, left, array-refused, array-accepted}
 
 module _ (words mem : List ℕ) (n : ℕ) where
-  lent-otherwise : (length mem ≡ coreArray.at words 32 → ⊥) → 12 ≡ numbers.refusal (length mem) n (coreMachine (coreArray.unpacked words) mem)
-  unfolding coreArray.unpacked numbers.refusal
-  lent-otherwise h = rw (ne-eqb (length mem) (coreArray.at words 32) h)
+  lent-otherwise : (length mem ≡ lengthIn words → ⊥) → 12 ≡ numbers.refusal (length mem) n (coreMachine (coreArray.unpacked words) mem)
+  unfolding numbers.refusal
+  lent-otherwise h = rw (coreLayout.laid-out .core-memory-length words, ne-eqb (length mem) (lengthIn words) h)
 
   module _ (s : coreArray.standsForCore words ≡ true) where
-    array-fine : length mem ≡ coreArray.at words 32 → refusalOf words mem ≡ 0
-    array-fine l = rw (eq-eqb (length mem) (coreArray.at words 32) l, s)
+    array-fine : length mem ≡ lengthIn words → refusalOf words (length mem) ≡ 0
+    array-fine l = rw (s, eq-eqb (length mem) (lengthIn words) l)
 
-    array-otherwise : (length mem ≡ coreArray.at words 32 → ⊥) → 12 ≡ refusalOf words mem
-    array-otherwise h = rw (s, ne-eqb (length mem) (coreArray.at words 32) h)
+    array-otherwise : (length mem ≡ lengthIn words → ⊥) → 12 ≡ refusalOf words (length mem)
+    array-otherwise h = rw (s, ne-eqb (length mem) (lengthIn words) h)
 
     refuses : (q : ℕ) → numbers.refusal (length mem) n (coreMachine (coreArray.unpacked words) mem) ≡ suc q → coreRun words mem n ≡ refused (suc q) words mem
     unfolding pipeline.run
-    refuses q e = go (eqb (length mem) (coreArray.at words 32)) refl
+    refuses q e = go (eqb (length mem) (lengthIn words)) refl
       where
-        go : (b : Bool) → eqb (length mem) (coreArray.at words 32) ≡ b → coreRun words mem n ≡ refused (suc q) words mem
+        go : (b : Bool) → eqb (length mem) (lengthIn words) ≡ b → coreRun words mem n ≡ refused (suc q) words mem
         go true l =
             sym (array-accepted words mem n (array-fine (eqb-true _ _ l)))
-            ∙ rw e (sym (handed-back words mem (called (suc q) 0 (coreArray.packed (coreArray.unpacked words)) mem) (rw (sym e) (core-number (length mem) n _ q e))))
+            ∙ rw (e, ne-eqb (suc q) 0 (λ z. omega arith)) (sym (handed-back words mem (called (suc q) 0 (coreArray.packed (coreArray.unpacked words)) mem) (rw (sym e) (core-number (length mem) n _ q e))))
         go false l =
             let differs = eqb-false _ _ l in
             sym (array-refused words mem n (array-otherwise differs) (λ z. omega arith))
@@ -46,9 +51,9 @@ module _ (words mem : List ℕ) (n : ℕ) where
 
     accepts : numbers.refusal (length mem) n (coreMachine (coreArray.unpacked words) mem) ≡ 0
         → coreRun words mem n ≡ coreCalled (pipeline.run (length mem) n (coreMachine (coreArray.unpacked words) mem))
-    accepts e = go (eqb (length mem) (coreArray.at words 32)) refl
+    accepts e = go (eqb (length mem) (lengthIn words)) refl
       where
-        go : (b : Bool) → eqb (length mem) (coreArray.at words 32) ≡ b
+        go : (b : Bool) → eqb (length mem) (lengthIn words) ≡ b
             → coreRun words mem n ≡ coreCalled (pipeline.run (length mem) n (coreMachine (coreArray.unpacked words) mem))
         go true l =
             sym (array-accepted words mem n (array-fine (eqb-true _ _ l)))
@@ -64,13 +69,13 @@ module _ (words mem : List ℕ) (n : ℕ) where
         go : (r : ℕ) → numbers.refusal (length mem) n (coreMachine (coreArray.unpacked words) mem) ≡ r
             → coreRun words mem n ≡ coreCalled (pipeline.run (length mem) n (coreMachine (coreArray.unpacked words) mem))
         go zero e = accepts e
-        go (suc q) e = refuses q e ∙ rw e (ap (λ (p : List ℕ). called (suc q) 0 p mem) (sym back))
+        go (suc q) e = refuses q e ∙ rw (e, ne-eqb (suc q) 0 (λ z. omega arith)) (ap (λ (p : List ℕ). called (suc q) 0 p mem) (sym back))
 
-  other-length : (length mem ≡ coreArray.at words 32 → ⊥) → coreRun words mem n ≡ refused 12 words mem
-  other-length h = sym (array-refused words mem n (rw (ne-eqb (length mem) (coreArray.at words 32) h)) (λ z. omega arith))
+  other-length : (length mem ≡ lengthIn words → ⊥) → coreRun words mem n ≡ refused 12 words mem
+  other-length h = sym (array-refused words mem n (rw (ne-eqb (length mem) (lengthIn words) h)) (λ z. omega arith))
 
-  no-core : length mem ≡ coreArray.at words 32 → coreArray.standsForCore words ≡ false → coreRun words mem n ≡ refused 11 words mem
-  no-core l s = sym (array-refused words mem n (rw (eq-eqb (length mem) (coreArray.at words 32) l, s)) (λ z. omega arith))
+  no-core : length mem ≡ lengthIn words → coreArray.standsForCore words ≡ false → coreRun words mem n ≡ refused 11 words mem
+  no-core l s = sym (array-refused words mem n (rw (eq-eqb (length mem) (lengthIn words) l, s)) (λ z. omega arith))
 
   pub core-refusals : CoreRefusals words mem n
   core-refusals = record {
@@ -85,9 +90,9 @@ module _ (words mem : List ℕ) (n : ℕ) where
   plain-refuses q e =
       rw e (sym (handed-back words mem (called (suc q) 0 (plainArray.packed (plainArray.unpacked words)) mem) (rw (sym e) (plain-number n (unpiped.machine (plainArray.unpacked words) mem) q e))))
 
-  plain-otherwise : (length mem ≡ coreArray.at words 18 → ⊥) → plainNumbers.refusal (plainArray.unpacked words) (length mem) n ≡ 12
-  unfolding plainArray.unpacked plainNumbers.refusal
-  plain-otherwise h = rw (ne-eqb (length mem) (coreArray.at words 18) h)
+  plain-otherwise : (length mem ≡ at words (plainPlace plain-length) → ⊥) → plainNumbers.refusal (plainArray.unpacked words) (length mem) n ≡ 12
+  unfolding plainNumbers.refusal
+  plain-otherwise h = rw (plainLayout.laid-out .memory-length words, ne-eqb (length mem) (at words (plainPlace plain-length)) h)
 
   pub plain-refusals : PlainRefusals words mem n
   unfolding plainRun

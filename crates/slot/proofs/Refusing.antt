@@ -1,20 +1,20 @@
 -- A run of either machine whose answer is a refusal left the machine as it was: no stop is a refusal. Assumes nothing.
 use Prim.Native.Nat.{ℕ, zero, suc, _+_, _≤_}
 use native.Mathlib.Omega.{arith}
-use mathlib.Core.Path.{_≡_, refl, sym, ap, _∙_}
+use mathlib.Core.Path.{_≡_, refl, sym, _∙_}
 use mathlib.Core.Logic.{⊎-elim}
 use mathlib.Core.Bool.{Bool, true, false, not, _&&_, _||_, and-false, false≢true}
 use lib.Dec.{eqb, leb, ltb}
 use lib.ListN.{length}
-use borrow.Author.Tests.{eqb-true, leb-true, lt-leb, not-false}
+use borrow.Author.Tests.{eqb-true, ne-eqb, leb-true, lt-leb, not-false}
 use Rattle.bits.specs.Choice.{pick}
-use Rattle.steps.specs.declared.Phase.{Phase}
-use Rattle.steps.specs.declared.Phase.the-variants.{Step1, Refill1, Refill2, Later}
-use Rattle.pipeline.specs.Machine as pipelined
-use Rattle.pipeline.specs.Cycle.{cycle}
-use Rattle.pipeline.specs.Numbers as numbers
-use Rattle.pipeline.specs.Run as pipeline
-use Rattle.pipeline.proofs.PlainSteps.{Stop, stop-for, stop-met}
+use Rattle.cycle.specs.Machine as pipelined
+use Rattle.cycle.specs.Cycle.{cycle}
+use Rattle.cycle.specs.StopFound.{isStep1, stopFound}
+use Rattle.refusals.specs.Numbers as numbers
+use Rattle.pipeline.specs.Calls as pipeline
+use Rattle.runs.specs.Run as runs
+use Rattle.runs.proofs.PlainSteps.{Stop, stop-for, stop-met}
 use Rattle.plain.specs.Machine as unpiped
 use Rattle.plain.specs.Numbers.{badLength, badFlags, isCounter, isStop}
 use Rattle.plain.specs.Numbers as plainNumbers
@@ -64,23 +64,21 @@ no-number q e = absurd (omega arith)
 
 -- ---- the core
 
-at-step-1 : (ph : Phase) (q : ℕ) → Other q → Other (numbers.atStep1 ph q)
-at-step-1 Step1 q h = h
-at-step-1 Refill1 q h = refl
-at-step-1 Refill2 q h = refl
-at-step-1 (Later k) q h = refl
-
-core-found : (m : pipelined.Machine) → Other (numbers.stopFound m)
-unfolding numbers.stopFound
-core-found m = at-step-1 (m .control .phase) _ (stop-other (stop-for _ _ _ _ _))
-
-core-runs : (n : ℕ) (m : pipelined.Machine) → Other (pipeline.runFrom n m .answer)
-unfolding pipeline.runFrom
-core-runs zero m = refl
-core-runs (suc n) m = go (numbers.stopFound m) (core-found m) (core-runs n (cycle m))
+core-found : (m : pipelined.Machine) → Other (stopFound m)
+unfolding stopFound
+core-found m = go (isStep1 (m .control .phase)) _ (stop-other (stop-for _ _))
   where
-    go : (q : ℕ) → Other q → Other (pipeline.runFrom n (cycle m) .answer)
-        → Other ((elim q as (λ x. pipeline.Ran) [ zero ↦ pipeline.oneMore (pipeline.runFrom n (cycle m)) | suc r ↦ pipeline.ran (suc r) 0 (pipeline.holding m (suc r)) ]) .answer)
+    go : (b : Bool) (q : ℕ) → Other q → Other (pick b q 0)
+    go true q h = h
+    go false q h = refl
+
+core-runs : (n : ℕ) (m : pipelined.Machine) → Other (runs.runFrom n m .answer)
+unfolding runs.runFrom
+core-runs zero m = refl
+core-runs (suc n) m = go (stopFound m) (core-found m) (core-runs n (cycle m))
+  where
+    go : (q : ℕ) → Other q → Other (runs.runFrom n (cycle m) .answer)
+        → Other ((elim q as (λ x. runs.Ran) [ zero ↦ runs.oneMore (runs.runFrom n (cycle m)) | suc r ↦ runs.ran (suc r) 0 (runs.holding m (suc r)) ]) .answer)
     go zero h k = k
     go (suc q) h k = h
 
@@ -88,40 +86,40 @@ module _ (lent budget : ℕ) (m : pipelined.Machine) where
   pub core-number : Number (numbers.refusal lent budget m)
   unfolding numbers.refusal
   core-number =
-      or-number (not (eqb lent (m .control .length))) 12 _ refl
-      (or-number (numbers.bad (m .registers) (m .control)) 11 _ refl
+      or-number (not (eqb lent (m .control .board .size))) 12 _ refl
+      (or-number (numbers.bad m) 11 _ refl
       (or-number (plainNumbers.badBudget budget) 3 _ refl
-      (or-number (ltb numbers.mostCycles (m .control .cycles + budget)) 13 0 refl no-number)))
+      (or-number (ltb pipelined.mostCycles (m .control .counts .cycles + budget)) 13 0 refl no-number)))
 
   holds-stop : numbers.refusal lent budget m ≡ 0 → isStop (m .control .stop) ≡ true
   unfolding numbers.refusal numbers.bad
   holds-stop =
-      go (not (eqb lent (m .control .length))) (numbers.bad (m .registers) (m .control)) (plainNumbers.badBudget budget) (ltb numbers.mostCycles (m .control .cycles + budget)) refl
+      go (not (eqb lent (m .control .board .size))) (numbers.bad m) (plainNumbers.badBudget budget) (ltb pipelined.mostCycles (m .control .counts .cycles + budget)) refl
     where
-      go : (a b k d : Bool) → numbers.bad (m .registers) (m .control) ≡ b → pick {A = ℕ} a 12 (pick b 11 (pick k 3 (pick d 13 0))) ≡ 0 → isStop (m .control .stop) ≡ true
+      go : (a b k d : Bool) → numbers.bad m ≡ b → pick {A = ℕ} a 12 (pick b 11 (pick k 3 (pick d 13 0))) ≡ 0 → isStop (m .control .stop) ≡ true
       go true b k d p e = absurd (omega arith)
       go false true k d p e = absurd (omega arith)
       go false false k d p e =
           let c = m .control in
-          not-false (isStop (c .stop)) (first (not (isStop (c .stop))) (numbers.heldAway (c .phase) (c .stop) || numbers.badPhase (c .phase) (m .registers) c) (second (ltb (c .cycles) (c .retired)) (second (ltb numbers.mostCycles (c .cycles)) (second (badFlags (c .flags)) (second (not (isCounter (c .pc))) (second (badLength (c .length)) p))))))
+          not-false (isStop (c .stop)) (first (not (isStop (c .stop))) (numbers.heldAway (c .phase) (c .stop) || numbers.badPhase (c .phase) m) (second (ltb (c .counts .cycles) (c .counts .retired)) (second (ltb pipelined.mostCycles (c .counts .cycles)) (second (badFlags (c .flags)) (second (not (isCounter (c .pipe .pc))) (second (badLength (c .board .size)) p))))))
 
   pub core-accepted : numbers.refusal lent budget m ≡ 0 → isRefusal (pipeline.run lent budget m .answer) ≡ false
   unfolding pipeline.run
   core-accepted e = rw e (go (m .control .stop) (held (m .control .stop) (holds-stop e)))
     where
-      go : (q : ℕ) → Other q → Other (pipeline.repeated q budget m .answer)
+      go : (q : ℕ) → Other q → Other (pipeline.unless q m (runs.runFrom budget m) .answer)
       go zero h = core-runs budget m
-      go (suc q) h = h
+      go (suc q) h = rw (ne-eqb (suc q) 0 (λ e. omega arith)) h
 
   -- a run whose answer is a refusal changed nothing
-  pub core-kept : isRefusal (pipeline.run lent budget m .answer) ≡ true → pipeline.run lent budget m ≡ pipeline.ran (pipeline.run lent budget m .answer) 0 m
+  pub core-kept : isRefusal (pipeline.run lent budget m .answer) ≡ true → pipeline.run lent budget m ≡ runs.ran (pipeline.run lent budget m .answer) 0 m
   unfolding pipeline.run
   core-kept = go (numbers.refusal lent budget m) refl
     where
       go : (r : ℕ) → numbers.refusal lent budget m ≡ r → isRefusal (pipeline.run lent budget m .answer) ≡ true
-          → pipeline.run lent budget m ≡ pipeline.ran (pipeline.run lent budget m .answer) 0 m
+          → pipeline.run lent budget m ≡ runs.ran (pipeline.run lent budget m .answer) 0 m
       go zero e h = absurd (false≢true (sym (core-accepted e) ∙ h))
-      go (suc q) e h = rw e
+      go (suc q) e h = rw (e, ne-eqb (suc q) 0 (λ z. omega arith))
 
 -- ---- the plain machine
 
@@ -146,18 +144,18 @@ module _ (count : ℕ) (m : unpiped.Machine) where
   pub plain-number : Number refusal
   unfolding plainNumbers.refusal
   plain-number =
-      or-number (not (eqb (length (m .memory)) (m .plain .length))) 12 _ refl
+      or-number (not (eqb (length (m .memory)) (m .plain .board .size))) 12 _ refl
       (or-number (plainNumbers.bad (m .plain)) 11 _ refl
       (or-number (plainNumbers.badBudget count) 3 0 refl no-number))
 
   plain-holds-stop : refusal ≡ 0 → isStop (m .plain .stop) ≡ true
   unfolding plainNumbers.refusal plainNumbers.bad
-  plain-holds-stop = go (not (eqb (length (m .memory)) (m .plain .length))) (plainNumbers.bad (m .plain)) (plainNumbers.badBudget count) refl
+  plain-holds-stop = go (not (eqb (length (m .memory)) (m .plain .board .size))) (plainNumbers.bad (m .plain)) (plainNumbers.badBudget count) refl
     where
       go : (a b k : Bool) → plainNumbers.bad (m .plain) ≡ b → pick {A = ℕ} a 12 (pick b 11 (pick k 3 0)) ≡ 0 → isStop (m .plain .stop) ≡ true
       go true b k p e = absurd (omega arith)
       go false true k p e = absurd (omega arith)
-      go false false k p e = not-false (isStop (m .plain .stop)) (second (badLength (m .plain .length) || not (isCounter (m .plain .a)) || badFlags (m .plain .flags)) p)
+      go false false k p e = not-false (isStop (m .plain .stop)) (second (badLength (m .plain .board .size) || not (isCounter (m .plain .a)) || badFlags (m .plain .flags)) p)
 
   pub plain-accepted : refusal ≡ 0 → isRefusal (plain.run count m .answer) ≡ false
   unfolding plain.run

@@ -5,16 +5,16 @@ use mathlib.Core.List.{List}
 use lib.Dec.{eqb, leb}
 use lib.ListN.{length}
 use Rattle.bits.specs.Choice.{pick}
-use Rattle.word.specs.Writer.{Answer, writeOf}
+use Rattle.writer.specs.Writer.{Answer, writeOf}
 use Rattle.pipeline.specs.declared.Core.{Core}
-use Rattle.pipeline.specs.Machine as pipelined
-use Rattle.pipeline.specs.Run as pipeline
-use Rattle.plain.specs.declared.Plain.{Plain}
+use Rattle.cycle.specs.Machine as pipelined
+use Rattle.pipeline.specs.Calls as pipeline
+use Rattle.runs.specs.Run as runs
 use Rattle.plain.specs.Machine as unpiped
 use Rattle.plain.specs.Run as plain
-use Rattle.slot.specs.CoreArray as coreArray
-use Rattle.slot.specs.PlainArray as plainArray
-use Rattle.slot.specs.RecordArray.{recordOf, standsForRecord}
+use Rattle.core_arrays.specs.CoreArray as coreArray
+use Rattle.plain_arrays.specs.PlainArray as plainArray
+use Rattle.record_arrays.specs.RecordArray.{recordOf, standsForRecord}
 
 -- a start: the number it answers, and the array it leaves
 pub record Started : Type 0 where
@@ -53,7 +53,7 @@ coreBegun b = started (b .answer) (coreArray.packed (b .core))
 unfoldable pub coreStart : List ℕ → ℕ → ℕ → List ℕ → Started
 coreStart g flags entry mem = coreBegun (pipeline.start g flags entry mem)
 
-abbrev pub coreCalled : pipeline.Ran → Called
+abbrev pub coreCalled : runs.Ran → Called
 coreCalled r =
     called (r .answer) (r .used) (coreArray.packed (pipeline.core (r .machine .registers) (r .machine .control))) (r .machine .memory)
 
@@ -63,23 +63,20 @@ coreMachine c mem = pipelined.machine (c .registers) (c .control) mem
 abbrev pub otherLength : ℕ → ℕ → Bool
 otherLength lent length = not (eqb lent length)
 
--- what a core's array refuses with before its core is run, or 0: 12 where the lent length differs, 11 where the array stands for no core
+-- 12 where the lent length differs, 11 where the array stands for no core
 abbrev pub arrayRefusal : Bool → Bool → ℕ
 arrayRefusal differs stands = pick differs 12 (pick (not stands) 11 0)
 
--- the length of the memory that the core was started on
-abbrev pub lengthIn : List ℕ → ℕ
-lengthIn words = coreArray.at words 32
-
-abbrev pub refusalOf : List ℕ → List ℕ → ℕ
-refusalOf words mem = arrayRefusal (otherLength (length mem) (lengthIn words)) (coreArray.standsForCore words)
+-- what a core's array refuses with before its core is run, or 0
+abbrev pub refusalOf : List ℕ → ℕ → ℕ
+refusalOf words lent = arrayRefusal (otherLength lent (coreArray.lengthIn words)) (coreArray.standsForCore words)
 
 -- array, memory, budget
 unfoldable pub coreRun : List ℕ → List ℕ → ℕ → Called
 coreRun words mem budget =
-    pick (eqb (refusalOf words mem) 0)
+    pick (eqb (refusalOf words (length mem)) 0)
     (unlessRefused words mem (coreCalled (pipeline.run (length mem) budget (coreMachine (coreArray.unpacked words) mem))))
-    (refused (refusalOf words mem) words mem)
+    (refused (refusalOf words (length mem)) words mem)
 
 abbrev pub plainBegun : plain.Begun → Started
 plainBegun b = started (b .answer) (plainArray.packed (b .plain))

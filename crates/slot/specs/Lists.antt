@@ -4,10 +4,10 @@ use mathlib.Core.Path.{_≡_}
 use mathlib.Core.List.{List, [], _∷_}
 use lib.ListN.{length}
 use Rattle.plain.specs.Starts.{Answered}
-use Rattle.pipeline.specs.Machine.{Machine}
-use Rattle.pipeline.specs.Run.{core}
+use Rattle.cycle.specs.Machine.{Machine}
+use Rattle.pipeline.specs.Calls.{core}
 use Rattle.pipeline.specs.Term3.{fresh, plainFresh, Call, call, Reply, reply, Accepted, Refused, Calls, Follows}
-use Rattle.slot.specs.CoreArray.{packed}
+use Rattle.core_arrays.specs.CoreArray.{packed}
 use Rattle.slot.specs.Calls.{Called, coreStart, coreCalled, coreRun}
 
 abbrev pub coreCall : Call → List ℕ → Called

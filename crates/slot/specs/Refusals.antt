@@ -4,21 +4,24 @@ use mathlib.Core.Path.{_≡_}
 use mathlib.Core.Bool.{true, false}
 use mathlib.Core.List.{List}
 use lib.ListN.{length}
-use Rattle.pipeline.specs.Numbers as numbers
-use Rattle.pipeline.specs.Run as pipeline
+use Rattle.refusals.specs.Numbers as numbers
+use Rattle.pipeline.specs.Calls as pipeline
 use Rattle.plain.specs.Machine as unpiped
 use Rattle.plain.specs.Numbers as plainNumbers
 use Rattle.plain.specs.Run as plain
-use Rattle.slot.specs.CoreArray as coreArray
-use Rattle.slot.specs.PlainArray as plainArray
-use Rattle.slot.specs.Calls.{isRefusal, refused, coreCalled, coreMachine, coreRun, plainCalled, plainRun}
+use Rattle.arrays.specs.Words.{at}
+use Rattle.core_arrays.specs.CoreArray as coreArray
+use Rattle.core_arrays.specs.Places.{corePlace, core-length}
+use Rattle.plain_arrays.specs.PlainArray as plainArray
+use Rattle.plain_arrays.specs.Places.{plainPlace, plain-length}
+use Rattle.slot.specs.Calls.{refused, coreCalled, coreMachine, coreRun, plainCalled, plainRun}
 
 -- of any array and memory, whatever the budget
 pub record CoreRefusals (words mem : List ℕ) (budget : ℕ) : Type 0 where
-  -- Run tests 12 first: the lent length differs from the record's, which is the array's last word.
-  pub other-length : (length mem ≡ coreArray.at words 32 → ⊥) → coreRun words mem budget ≡ refused 12 words mem
+  -- Run tests 12 first: the lent length differs from the record's, which stands in the array where the header says.
+  pub other-length : (length mem ≡ at words (corePlace core-length) → ⊥) → coreRun words mem budget ≡ refused 12 words mem
   -- Then 11: an array that stands for no core.
-  pub no-core : length mem ≡ coreArray.at words 32 → coreArray.standsForCore words ≡ false → coreRun words mem budget ≡ refused 11 words mem
+  pub no-core : length mem ≡ at words (corePlace core-length) → coreArray.standsForCore words ≡ false → coreRun words mem budget ≡ refused 11 words mem
   -- Then what the array's core refuses with.
   pub refuses : (q : ℕ) → coreArray.standsForCore words ≡ true
       → numbers.refusal (length mem) budget (coreMachine (coreArray.unpacked words) mem) ≡ suc q → coreRun words mem budget ≡ refused (suc q) words mem
@@ -29,7 +32,7 @@ pub record CoreRefusals (words mem : List ℕ) (budget : ℕ) : Type 0 where
 -- of any array and memory, whatever the count
 pub record PlainRefusals (words mem : List ℕ) (count : ℕ) : Type 0 where
   -- 12 comes first.
-  pub other-length : (length mem ≡ coreArray.at words 18 → ⊥) → plainRun words mem count ≡ refused 12 words mem
+  pub other-length : (length mem ≡ at words (plainPlace plain-length) → ⊥) → plainRun words mem count ≡ refused 12 words mem
   -- Then what the array's plain machine refuses with.
   pub refuses : (q : ℕ) → plainNumbers.refusal (plainArray.unpacked words) (length mem) count ≡ suc q → plainRun words mem count ≡ refused (suc q) words mem
   -- A run that none of them refuses is the plain machine's.

@@ -1,16 +1,17 @@
 // The core's calls.
 ghost use mathlib.Core.Path.{_≡_};
-ghost use Rattle.slot.specs.Calls.{started, called, coreStart, otherLength, arrayRefusal, coreRun};
-use crate::core_array::packed;
-use crate::core_array::stands_for_core;
-use crate::core_array::unpacked;
+ghost use Rattle.slot.specs.Calls.{started, called, coreStart, coreRun};
 use crate::refusal::is_refusal;
+use crate::refusal::refusal_of;
+use core_arrays::CoreArray;
+use core_arrays::packing::pack;
+use core_arrays::unpacking::unpacked;
 use pipeline::Core;
 
 // A refused start leaves the zeroed core.
 #[no_mangle]
 pub extern "C" fn slot_core_start(
-    core: &mut [u32; 33],
+    core: &mut CoreArray,
     registers: &[u32; 15],
     flags: u32,
     entry: u32,
@@ -20,33 +21,14 @@ pub extern "C" fn slot_core_start(
 {
     let begun = Core::start(*registers, flags, entry, memory);
     let fresh = begun.core;
-    *core = packed(fresh);
+    pack(core, fresh);
     begun.answer
-}
-
-fn other_length(lent: usize, length: u32) -> bool
-    ensures { λ r. ⌜ r ≡ otherLength lent length ⌝ }
-{
-    lent != length as usize
-}
-
-// What the array refuses with before its core is run, or 0.
-fn array_refusal(differs: bool, stands: bool) -> u32
-    ensures { λ r. ⌜ r ≡ arrayRefusal differs stands ⌝ }
-{
-    if differs {
-        return 12;
-    }
-    if !stands {
-        return 11;
-    }
-    0
 }
 
 // A refused run writes neither the array nor the memory.
 #[no_mangle]
 pub extern "C" fn slot_core_run(
-    core: &mut [u32; 33],
+    core: &mut CoreArray,
     memory: &mut [u8],
     budget: u64,
     used: &mut u64,
@@ -54,7 +36,7 @@ pub extern "C" fn slot_core_run(
     ensures { λ r. ⌜ called r (now (used .exit)) (now (core .exit)) (now (memory .exit)) ≡ coreRun (now (core .entry)) (now (memory .entry)) budget ⌝ }
 {
     *used = 0;
-    let refusal = array_refusal(other_length(memory.len(), core[32]), stands_for_core(core));
+    let refusal = refusal_of(core, memory.len());
     if refusal != 0 {
         return refusal;
     }
@@ -63,7 +45,7 @@ pub extern "C" fn slot_core_run(
         return ran.answer;
     }
     let next = ran.core;
-    *core = packed(next);
+    pack(core, next);
     *used = ran.used;
     ran.answer
 }

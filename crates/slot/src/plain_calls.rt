@@ -1,14 +1,15 @@
 // The plain machine's calls.
 ghost use mathlib.Core.Path.{_≡_};
 ghost use Rattle.slot.specs.Calls.{started, called, plainStart, plainRun};
-use crate::plain_array::packed;
-use crate::plain_array::unpacked;
 use crate::refusal::is_refusal;
 use plain::Plain;
+use plain_arrays::PlainArray;
+use plain_arrays::pack;
+use plain_arrays::unpacked;
 
 #[no_mangle]
 pub extern "C" fn slot_plain_start(
-    plain: &mut [u32; 19],
+    plain: &mut PlainArray,
     registers: &[u32; 15],
     flags: u32,
     entry: u32,
@@ -18,13 +19,13 @@ pub extern "C" fn slot_plain_start(
 {
     let begun = Plain::start(*registers, flags, entry, memory);
     let fresh = begun.plain;
-    *plain = packed(fresh);
+    pack(plain, fresh);
     begun.answer
 }
 
 #[no_mangle]
 pub extern "C" fn slot_plain_run(
-    plain: &mut [u32; 19],
+    plain: &mut PlainArray,
     memory: &mut [u8],
     count: u64,
     used: &mut u64,
@@ -37,7 +38,7 @@ pub extern "C" fn slot_plain_run(
         return ran.answer;
     }
     let next = ran.plain;
-    *plain = packed(next);
+    pack(plain, next);
     *used = ran.done;
     ran.answer
 }

@@ -1,12 +1,9 @@
 // The report program: reads an image from standard input, runs it, and writes the report. The buffer is longer than any
 // image, so that a longer input shows.
 use libc::STDIN_FILENO;
-use libc::STDOUT_FILENO;
 
 fn main() {
     let mut buffer = [0u8; 65540];
-    let mut out = [0u8; 512];
     let n = io::read_full(STDIN_FILENO, &mut buffer);
-    let r = report::report(&mut buffer[..n], &mut out);
-    io::write_all(STDOUT_FILENO, &out[..r]);
+    report::print(&mut buffer[..n]);
 }

@@ -5,19 +5,20 @@ use Rattle.bits.specs.Bits.{field, bit}
 use Rattle.word.specs.Reader.{readOf}
 use Rattle.datapath.specs.Shifter.{rotated, lsl, shift, byRegister, byAmount}
 use Rattle.datapath.specs.Alu.{operate}
-use Rattle.datapath.specs.Counter.{ahead, r15Word}
-use Rattle.memory.specs.Memory.{holdsWord, readWord, writeWord}
+use Rattle.datapath.specs.Counter.{ahead, behind, r15Word}
+use Rattle.memory.specs.Bytes.{holdsWord, wordIn, withWord}
+use Rattle.memory.specs.Memory.{place}
 use Rattle.registers.specs.Registers.{register, put, arrives}
 use Rattle.processing.specs.Processing.{operandOf, computedOf, flagsAfter, stored, processed}
 use Rattle.transfer.specs.Single as single
 use Rattle.transfer.specs.Single.{offsetOf, addressOf, loadedValue, storedValue, storedTo}
 use Rattle.transfer.specs.Block.{namedFrom, named, changedBase, lowestAddress, withBase}
 use Rattle.semantics.specs.Branch.{branched}
-use Rattle.steps.specs.Steps.{behind, first, loadLater, storeLater, loadStep, blockLoadLater, storeStep, blockStoreLater, later}
+use Rattle.steps.specs.Steps.{first, loadLater, storeLater, loadStep, blockLoadLater, storeStep, blockStoreLater, later}
 use Rattle.steps.specs.LatchTable.{LatchTable}
 
 pub latch-table : LatchTable
-unfolding field bit readOf rotated lsl shift byRegister byAmount operate ahead r15Word holdsWord readWord writeWord register put arrives operandOf computedOf flagsAfter stored processed offsetOf addressOf loadedValue storedValue storedTo single.changedBase single.withBase namedFrom named changedBase lowestAddress withBase branched behind first loadLater storeLater loadStep blockLoadLater storeStep blockStoreLater later
+unfolding field bit readOf rotated lsl shift byRegister byAmount operate ahead r15Word holdsWord wordIn withWord place register put arrives operandOf computedOf flagsAfter stored processed offsetOf addressOf loadedValue storedValue storedTo single.changedBase single.withBase namedFrom named changedBase lowestAddress withBase branched behind first loadLater storeLater loadStep blockLoadLater storeStep blockStoreLater later
 latch-table = record {
   moved = refl;
   branched = refl;

@@ -1,2 +1,3 @@
 pub mod OwnSteps
+pub mod Both
 pub mod LatchTable

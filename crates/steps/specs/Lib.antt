@@ -1,3 +1,2 @@
 pub mod Steps
-pub mod View
 pub mod LatchTable

@@ -1,21 +1,22 @@
 // Step 1 of each class; pc is A+8.
 ghost use mathlib.Core.Path.{_≡_};
-ghost use mathlib.Core.List.{List};
-ghost use Prim.Native.Nat.{ℕ};
+ghost use Rattle.memory.specs.Memory.{Memory};
 ghost use Rattle.bits.specs.Choice.{pick};
 ghost use Rattle.word.specs.declared.Instruction.{Instruction};
+ghost use Rattle.word.specs.Reader.{readOf};
 ghost use Rattle.datapath.specs.Counter.{ahead};
 ghost use Rattle.transfer.specs.Single as single;
 ghost use Rattle.transfer.specs.Block as block;
-ghost use Rattle.steps.specs.Steps.{behind, first};
-ghost use Rattle.steps.specs.View.{stepped};
+ghost use Rattle.steps.specs.Steps.{own, first};
 use crate::After;
+use crate::Ended;
 use crate::Phase;
 use crate::Step;
 use crate::ending::last;
 use crate::ending::on;
 use crate::ending::still;
 use datapath::counter::ahead;
+use datapath::counter::behind;
 use processing::process;
 use processing::shifts_by_register;
 use semantics::branch::branch;
@@ -24,12 +25,14 @@ use transfer::named::lowest;
 use transfer::single;
 use word::Block;
 use word::Branch;
+use word::Instruction;
 use word::Processing;
 use word::Single;
+use word::reader;
 
 // With shift by register all is done in the second step.
-pub fn first_processing(i: Processing, registers: &mut [u32; 15], flags: u32, pc: u32) -> Step
-    ensures { λ r. ⌜ ((mem : List ℕ) → stepped r (now (registers .exit)) mem ≡ first (Instruction.Processing i) (now (registers .entry)) flags pc mem) ⌝ }
+fn first_processing(i: Processing, registers: &mut [u32; 15], flags: u32, pc: u32) -> Step
+    ensures { λ r. ⌜ ((mem : Memory) → own (now (registers .exit)) r mem ≡ first (Instruction.Processing i) (now (registers .entry)) flags pc mem) ⌝ }
 {
     let o = i.operand;
     if shifts_by_register(o) {
@@ -60,8 +63,8 @@ fn single_base(i: Single, registers: &[u32; 15], flags: u32, pc: u32) -> u32
     }
 }
 
-pub fn first_single(i: Single, registers: &[u32; 15], flags: u32, pc: u32) -> Step
-    ensures { λ r. ⌜ ((mem : List ℕ) → stepped r (now (registers .entry)) mem ≡ first (Instruction.Single i) (now (registers .entry)) flags pc mem) ⌝ }
+fn first_single(i: Single, registers: &[u32; 15], flags: u32, pc: u32) -> Step
+    ensures { λ r. ⌜ ((mem : Memory) → own (now (registers .entry)) r mem ≡ first (Instruction.Single i) (now (registers .entry)) flags pc mem) ⌝ }
 {
     let address = single::address(i, registers, flags, pc);
     let datum = first_datum(i.l, registers, i.rd, flags, pc);
@@ -84,23 +87,29 @@ fn block_base(i: Block, registers: &[u32; 15]) -> u32
     }
 }
 
-pub fn first_block(i: Block, registers: &[u32; 15], flags: u32, pc: u32) -> Step
-    ensures { λ r. ⌜ ((mem : List ℕ) → stepped r (now (registers .entry)) mem ≡ first (Instruction.Block i) (now (registers .entry)) flags pc mem) ⌝ }
+fn first_block(i: Block, registers: &[u32; 15], flags: u32, pc: u32) -> Step
+    ensures { λ r. ⌜ ((mem : Memory) → own (now (registers .entry)) r mem ≡ first (Instruction.Block i) (now (registers .entry)) flags pc mem) ⌝ }
 {
     let address = block::lowest_address(i, registers);
     let datum = first_datum(i.l, registers, lowest(i.list), flags, pc);
     on(flags, address, datum, block_base(i, registers), 0)
 }
 
-// The address of the instruction whose step 1 sees this counter, modulo 2^26.
-pub fn behind(pc: u32) -> u32
-    ensures { λ r. ⌜ r ≡ behind pc ⌝ }
-{
-    ahead(pc, 0x3fffff8)
-}
-
-pub fn first_branch(i: Branch, registers: &mut [u32; 15], flags: u32, pc: u32) -> Step
-    ensures { λ r. ⌜ ((mem : List ℕ) → stepped r (now (registers .exit)) mem ≡ first (Instruction.Branch i) (now (registers .entry)) flags pc mem) ⌝ }
+fn first_branch(i: Branch, registers: &mut [u32; 15], flags: u32, pc: u32) -> Step
+    ensures { λ r. ⌜ ((mem : Memory) → own (now (registers .exit)) r mem ≡ first (Instruction.Branch i) (now (registers .entry)) flags pc mem) ⌝ }
 {
     last(branch(i, registers, flags, behind(pc)))
+}
+
+// Step 1 of a word whose condition passes.
+pub fn first(word: u32, registers: &mut [u32; 15], flags: u32, pc: u32) -> Step
+    ensures { λ r. ⌜ ((mem : Memory) → own (now (registers .exit)) r mem ≡ first (readOf word) (now (registers .entry)) flags pc mem) ⌝ }
+{
+    match reader::read(word) {
+        Instruction::Processing(i) => first_processing(i, registers, flags, pc),
+        Instruction::Single(i) => first_single(i, registers, flags, pc),
+        Instruction::Block(i) => first_block(i, registers, flags, pc),
+        Instruction::Branch(i) => first_branch(i, registers, flags, pc),
+        Instruction::Other(_) => still(flags, After::Done(Ended::Executed)),
+    }
 }

@@ -1,25 +1,30 @@
-// Step k + 2 of processing and single transfers; pc is A+12.
+// Step k + 2 of each class; pc is A+12.
 ghost use mathlib.Core.Path.{_≡_};
-ghost use mathlib.Core.List.{List};
+ghost use Rattle.memory.specs.Memory.{Memory, memoryOf};
 ghost use Prim.Native.Nat.{ℕ};
 ghost use Rattle.word.specs.declared.Instruction.{Instruction};
+ghost use Rattle.word.specs.Reader.{readOf};
 ghost use Rattle.processing.specs.Processing.{processed};
-ghost use Rattle.steps.specs.Steps.{last, loadLater, storeLater, later};
-ghost use Rattle.steps.specs.View.{latched, stepped};
+ghost use Rattle.steps.specs.Steps.{own, last, loadLater, storeLater, later};
 use crate::After;
-use crate::Latched;
+use crate::Ended;
+use crate::Latches;
 use crate::Step;
+use crate::blocks::later_block;
 use crate::ending::last;
 use crate::ending::on;
 use crate::ending::still;
+use memory::Board;
 use processing::process;
 use registers::arrive;
 use transfer::single;
+use word::Instruction;
 use word::Processing;
 use word::Single;
+use word::reader;
 
-pub fn later_processing(i: Processing, registers: &mut [u32; 15], flags: u32, pc: u32) -> Step
-    ensures { λ r. ⌜ ((mem : List ℕ) → stepped r (now (registers .exit)) mem ≡ last (processed i (now (registers .entry)) flags pc) mem) ⌝ }
+fn later_processing(i: Processing, registers: &mut [u32; 15], flags: u32, pc: u32) -> Step
+    ensures { λ r. ⌜ ((mem : Memory) → own (now (registers .exit)) r mem ≡ last (processed i (now (registers .entry)) flags pc) mem) ⌝ }
 {
     last(process(i, registers, flags, pc))
 }
@@ -31,13 +36,15 @@ fn load_later(
     registers: &mut [u32; 15],
     memory: &[u8],
     flags: u32,
-    l: Latched,
+    l: Latches,
+    board: Board,
 ) -> Step
-    ensures { λ r. ⌜ stepped r (now (registers .exit)) (now (memory .entry)) ≡ loadLater i k (now (registers .entry)) flags (latched l) (now (memory .entry)) ⌝ }
+    ensures { λ r. ⌜ own (now (registers .exit)) r (memoryOf board (now (memory .entry))) ≡ loadLater i k (now (registers .entry)) flags l (memoryOf board (now (memory .entry))) ⌝ }
 {
     if k == 0 {
         single::write_base(i, registers, l.base);
-        on(flags, 0, single::loaded_value(i, memory, l.address), 0, 1)
+        let value = single::loaded_value(i, memory, board, l.address);
+        on(flags, 0, value, 0, 1)
     } else {
         last(arrive(registers, flags, i.rd, l.datum))
     }
@@ -49,28 +56,52 @@ fn store_later(
     registers: &mut [u32; 15],
     memory: &mut [u8],
     flags: u32,
-    l: Latched,
+    l: Latches,
+    board: Board,
 ) -> Step
-    ensures { λ r. ⌜ stepped r (now (registers .exit)) (now (memory .exit)) ≡ storeLater i (now (registers .entry)) flags (latched l) (now (memory .entry)) ⌝ }
+    ensures { λ r. ⌜ own (now (registers .exit)) r (memoryOf board (now (memory .exit))) ≡ storeLater i (now (registers .entry)) flags l (memoryOf board (now (memory .entry))) ⌝ }
 {
     single::write_base(i, registers, l.base);
-    single::store(i, memory, l.address, l.datum);
-    still(flags, After::Done(1))
+    single::store(i, memory, board, l.address, l.datum);
+    still(flags, After::Done(Ended::Executed))
 }
 
-pub fn later_single(
+fn later_single(
     i: Single,
     k: u32,
     registers: &mut [u32; 15],
     memory: &mut [u8],
     flags: u32,
-    l: Latched,
+    l: Latches,
+    board: Board,
 ) -> Step
-    ensures { λ r. ⌜ ((pc : ℕ) → stepped r (now (registers .exit)) (now (memory .exit)) ≡ later (Instruction.Single i) k (now (registers .entry)) flags pc (latched l) (now (memory .entry))) ⌝ }
+    ensures { λ r. ⌜ ((pc : ℕ) → own (now (registers .exit)) r (memoryOf board (now (memory .exit))) ≡ later (Instruction.Single i) k (now (registers .entry)) flags pc l (memoryOf board (now (memory .entry)))) ⌝ }
 {
     if i.l {
-        load_later(i, k, registers, memory, flags, l)
+        load_later(i, k, registers, memory, flags, l, board)
     } else {
-        store_later(i, registers, memory, flags, l)
+        store_later(i, registers, memory, flags, l, board)
+    }
+}
+
+// Step k + 2 of a word.
+pub fn later(
+    word: u32,
+    k: u32,
+    registers: &mut [u32; 15],
+    memory: &mut [u8],
+    flags: u32,
+    pc: u32,
+    l: Latches,
+    board: Board,
+) -> Step
+    ensures { λ r. ⌜ own (now (registers .exit)) r (memoryOf board (now (memory .exit))) ≡ later (readOf word) k (now (registers .entry)) flags pc l (memoryOf board (now (memory .entry))) ⌝ }
+{
+    match reader::read(word) {
+        Instruction::Processing(i) => later_processing(i, registers, flags, pc),
+        Instruction::Single(i) => later_single(i, k, registers, memory, flags, l, board),
+        Instruction::Block(i) => later_block(i, k, registers, memory, flags, pc, l, board),
+        Instruction::Branch(_) => still(flags, After::Done(Ended::Executed)),
+        Instruction::Other(_) => still(flags, After::Done(Ended::Executed)),
     }
 }

@@ -1,5 +1,5 @@
 // What an instruction does in each of its own steps, besides the fetch. Registers and memory are lent, the rest goes by value.
-pub mod blocks;
+mod blocks;
 pub mod ending;
 pub mod first;
 pub mod later;
@@ -12,15 +12,22 @@ pub enum Phase {
     Later(u32),
 }
 
-// How a cycle ends: the instruction goes on in a phase; it is done, and retired rises by so much; or it stored the counter.
+// What ended: the start, with its refills; an instruction whose condition failed; or one that was executed.
+pub enum Ended {
+    Start,
+    Skipped,
+    Executed,
+}
+
+// How a cycle ends: the instruction goes on in a phase; it is done; or it stored the counter.
 pub enum After {
     More(Phase),
-    Done(u32),
+    Done(Ended),
     Jump(u32),
 }
 
-// The latches as a step finds them.
-pub struct Latched {
+// The next address to be moved, the data latch, and the written-back base; one that no step left needs is 0.
+pub struct Latches {
     pub address: u32,
     pub datum: u32,
     pub base: u32,
@@ -29,8 +36,6 @@ pub struct Latched {
 // What a step leaves beside the registers and the memory, which are lent.
 pub struct Step {
     pub flags: u32,
-    pub address: u32,
-    pub datum: u32,
-    pub base: u32,
+    pub latches: Latches,
     pub after: After,
 }

@@ -1,80 +1,92 @@
 -- The marked words of the rules of 23, by computation on the definitions.
 -- Assumes nothing.
-use mathlib.Core.Path.{refl}
+use mathlib.Core.Path.{_≡_, refl}
 use Rattle.bits.specs.Bits.{field, bit}
+use Rattle.word.specs.declared.Instruction.{Instruction}
 use Rattle.word.specs.Reader.{readOf}
 use Rattle.condition.specs.Condition.{passes}
+use Rattle.registers.specs.State.{State}
 use Rattle.transfer.specs.Block.{named, namedFrom}
-use Rattle.stops.specs.Stops.{ruleBroken, stopOf, stopFor}
+use Rattle.stops.specs.Rules.{ruleBroken}
+use Rattle.stops.specs.Stops.{due, stopOf, stopFor}
 use Rattle.stops.specs.BrokenRules.{BrokenRules}
 
 pub broken-rules : BrokenRules
-unfolding field bit readOf passes named namedFrom ruleBroken stopOf stopFor
+unfolding field bit readOf passes named namedFrom ruleBroken due stopOf stopFor
 broken-rules = record {
-  one = record { rs-15 = (refl, λ g f a board. refl); rs-14 = refl; rm-15 = refl; rn-and-rd-15 = refl; amount = refl; rotation = refl };
+  one = record { rs-15 = λ s. (refl, refl); rs-14 = λ s. refl; rm-15 = λ s. refl; rn-and-rd-15 = λ s. refl; amount = λ s. refl; rotation = λ s. refl };
   two = record {
-    tst = (refl, λ g f a board. refl);
-    teq = (refl, λ g f a board. refl);
-    cmp = (refl, λ g f a board. refl);
-    cmn = (refl, λ g f a board. refl);
-    tst-s = refl;
-    teq-s = refl;
-    cmp-s = refl;
-    cmn-s = refl;
-    rsc = refl;
-    orr = refl;
+    tst = λ s. (refl, refl);
+    teq = λ s. (refl, refl);
+    cmp = λ s. (refl, refl);
+    cmn = λ s. (refl, refl);
+    tst-s = λ s. refl;
+    teq-s = λ s. refl;
+    cmp-s = λ s. refl;
+    cmn-s = λ s. refl;
+    rsc = λ s. refl;
+    orr = λ s. refl;
   };
   three = record {
-    post-indexed = (refl, λ g f a board. refl);
-    written-back = (refl, λ g f a board. refl);
-    both = (refl, λ g f a board. refl);
-    store = (refl, λ g f a board. refl);
-    pre-indexed = refl;
-    base-14 = refl;
-    rd-15 = refl;
+    post-indexed = λ s. (refl, refl);
+    written-back = λ s. (refl, refl);
+    both = λ s. (refl, refl);
+    store = λ s. (refl, refl);
+    pre-indexed = λ s. refl;
+    base-14 = λ s. refl;
+    rd-15 = λ s. refl;
   };
   four = record {
-    load = (refl, λ g f a board. refl);
-    store = (refl, λ g f a board. refl);
-    shifted = (refl, λ g f a board. refl);
-    rm-14 = refl;
-    rn-15 = refl;
-    rd-15 = refl;
-    amount-15 = refl;
-    constant-15 = refl;
-    processing = refl;
+    load = λ s. (refl, refl);
+    store = λ s. (refl, refl);
+    shifted = λ s. (refl, refl);
+    rm-14 = λ s. refl;
+    rn-15 = λ s. refl;
+    rd-15 = λ s. refl;
+    amount-15 = λ s. refl;
+    constant-15 = λ s. refl;
+    processing = λ s. refl;
   };
   five = record {
-    load = (refl, λ g f a board. refl);
-    store = (refl, λ g f a board. refl);
-    rd-14 = refl;
-    rn-15 = refl;
-    word = refl;
-    written-back = refl;
+    load = λ s. (refl, refl);
+    store = λ s. (refl, refl);
+    rd-14 = λ s. refl;
+    rn-15 = λ s. refl;
+    word = λ s. refl;
+    written-back = λ s. refl;
   };
   six = record {
-    load = (refl, λ g f a board. refl);
-    store = (refl, λ g f a board. refl);
-    written-back = (refl, λ g f a board. refl);
-    down = (refl, λ g f a board. refl);
-    base-14 = refl;
-    named-15 = refl;
+    load = λ s. (refl, refl);
+    store = λ s. (refl, refl);
+    written-back = λ s. (refl, refl);
+    down = λ s. (refl, refl);
+    base-14 = λ s. refl;
+    named-15 = λ s. refl;
   };
   seven = record {
-    load = (refl, λ g f a board. refl);
-    store = (refl, λ g f a board. refl);
-    named-15 = (refl, λ g f a board. refl);
-    without-s = refl;
-    p = refl;
-    u = refl;
-    w = refl;
+    load = λ s. (refl, refl);
+    store = λ s. (refl, refl);
+    named-15 = λ s. (refl, refl);
+    without-s = λ s. refl;
+    p = λ s. refl;
+    u = λ s. refl;
+    w = λ s. refl;
   };
   eight = record {
-    load = (refl, λ g f a board. refl);
-    store = (refl, λ g f a board. refl);
-    base-1 = (refl, λ g f a board. refl);
-    lowest = refl;
-    highest = refl;
-    several = refl;
+    load = λ s. (refl, refl);
+    store = λ s. (refl, refl);
+    base-1 = λ s. (refl, refl);
+    lowest = λ s. refl;
+    highest = λ s. refl;
+    several = λ s. refl;
   };
 }
+
+-- these rules go by the word alone
+pub rule-alike : (i : Instruction) (s t : State) → ruleBroken i s ≡ ruleBroken i t
+unfolding ruleBroken
+rule-alike (Instruction.Processing i) s t = refl
+rule-alike (Instruction.Single i) s t = refl
+rule-alike (Instruction.Block i) s t = refl
+rule-alike (Instruction.Branch i) s t = refl
+rule-alike (Instruction.Other w) s t = refl

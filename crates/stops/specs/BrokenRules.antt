@@ -1,18 +1,18 @@
 -- Each of the eight rules of 23 by marked words that break it, beside words of one other field that break none.
 use Prim.Native.Nat.{ℕ}
 use mathlib.Core.Path.{_≡_}
-use mathlib.Core.List.{List}
 use Rattle.word.specs.Reader.{readOf}
 use Rattle.memory.specs.declared.Fetched.the-variants.{Word}
-use Rattle.stops.specs.declared.Board.{Board}
-use Rattle.stops.specs.Stops.{ruleBroken, stopFor}
+use Rattle.registers.specs.State.{State}
+use Rattle.stops.specs.Rules.{ruleBroken}
+use Rattle.stops.specs.Stops.{stopFor}
 
 -- a word breaks rule k, and meets 23 in every state
 abbrev pub Breaks : ℕ → ℕ → Type 0
-Breaks k w = (ruleBroken (readOf w) ≡ k) × ((g : List ℕ) (f a : ℕ) (board : Board) → stopFor (Word w) g f a board ≡ 23)
+Breaks k w = (s : State) → (ruleBroken (readOf w) s ≡ k) × (stopFor (Word w) s ≡ 23)
 
 abbrev pub BreaksNone : ℕ → Type 0
-BreaksNone w = ruleBroken (readOf w) ≡ 0
+BreaksNone w = (s : State) → ruleBroken (readOf w) s ≡ 0
 
 -- 1 Rs=15
 pub record Rule1 : Type 0 where

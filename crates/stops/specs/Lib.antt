@@ -1,5 +1,8 @@
+pub mod Numbers
+pub mod Rules
+pub mod Moves
 pub mod Stops
-pub mod Marked
-pub mod BrokenRules
 pub mod StopOrder
+pub mod BrokenRules
 pub mod Hidden
+pub mod Marked

@@ -2,33 +2,35 @@
 use Prim.Native.Nat.{ℕ, _+_, _*_, _/_, _%_, _^_, _≤_, _<_}
 use mathlib.Core.Path.{_≡_}
 use mathlib.Core.Bool.{Bool, true, false, not}
-use mathlib.Core.List.{List, _∷_}
+use mathlib.Core.List.{[], _∷_}
 use mathlib.Core.Logic.{_⊎_, _↔_}
 use lib.ListN.{replicate}
 use Rattle.word.specs.declared.Instruction.{Instruction}
-use Rattle.word.specs.Writer.{isOther}
+use Rattle.word.specs.Reader.{isOther}
 use Rattle.memory.specs.declared.Fetched.the-variants.{Word}
 use Rattle.datapath.specs.Counter.{ahead}
-use Rattle.stops.specs.declared.Board.{Board}
-use Rattle.stops.specs.Stops.{ruleBroken, stopOf, stopFor}
+use Rattle.memory.specs.Memory.{memoryOf}
+use Rattle.registers.specs.State.{State, state}
+use Rattle.stops.specs.Rules.{ruleBroken}
+use Rattle.stops.specs.Stops.{stopOf, stopFor}
 use Rattle.transfer.specs.Single as single
 use Rattle.transfer.specs.Block as block
 
 -- how many words are moved
-abbrev pub moves : Instruction → ℕ
-moves (Instruction.Processing i) = 0
-moves (Instruction.Single i) = 1
-moves (Instruction.Block i) = block.count i
-moves (Instruction.Branch i) = 0
-moves (Instruction.Other word) = 0
+abbrev pub movedCount : Instruction → ℕ
+movedCount (Instruction.Processing i) = 0
+movedCount (Instruction.Single i) = 1
+movedCount (Instruction.Block i) = block.count i
+movedCount (Instruction.Branch i) = 0
+movedCount (Instruction.Other word) = 0
 
 -- the first address moved
-abbrev pub firstMoved : Instruction → List ℕ → ℕ → ℕ → ℕ
-firstMoved (Instruction.Processing i) g f a = 0
-firstMoved (Instruction.Single i) g f a = single.addressOf i g f (ahead a 8)
-firstMoved (Instruction.Block i) g f a = block.lowestAddress i g
-firstMoved (Instruction.Branch i) g f a = 0
-firstMoved (Instruction.Other word) g f a = 0
+abbrev pub firstMoved : Instruction → State → ℕ
+firstMoved (Instruction.Processing i) s = 0
+firstMoved (Instruction.Single i) s = single.addressOf i (s .registers) (s .status) (ahead (s .a) 8)
+firstMoved (Instruction.Block i) s = block.lowestAddress i (s .registers)
+firstMoved (Instruction.Branch i) s = 0
+firstMoved (Instruction.Other word) s = 0
 
 -- it stores what it moves
 abbrev pub storing : Instruction → Bool
@@ -39,31 +41,31 @@ storing (Instruction.Branch i) = false
 storing (Instruction.Other word) = false
 
 -- some address moved is such: the first, or one that follows 4 apart, modulo 2^32
-abbrev pub Moved : Instruction → List ℕ → ℕ → ℕ → (ℕ → Type 0) → Type 0
-Moved i g f a Such = (k : ℕ) × (k < moves i) × Such ((firstMoved i g f a + 4 * k) % 2 ^ 32)
+abbrev pub Moved : Instruction → State → (ℕ → Type 0) → Type 0
+Moved i s Such = (k : ℕ) × (k < movedCount i) × Such ((firstMoved i s + 4 * k) % 2 ^ 32)
 
 -- a moved address not below the length
-abbrev pub Outside : Instruction → List ℕ → ℕ → ℕ → Board → Type 0
-Outside i g f a board = Moved i g f a (λ at. board .length ≤ at)
+abbrev pub Outside : Instruction → State → Type 0
+Outside i s = Moved i s (λ at. s .memory .board .size ≤ at)
 
 -- a stored word, or the word of a stored byte, at A+4 or A+8
-abbrev pub Fetched : Instruction → List ℕ → ℕ → ℕ → Type 0
-Fetched i g f a = (storing i ≡ true) × Moved i g f a (λ at. (at / 4 ≡ ahead a 4 / 4) ⊎ (at / 4 ≡ ahead a 8 / 4))
+abbrev pub Fetched : Instruction → State → Type 0
+Fetched i s = (storing i ≡ true) × Moved i s (λ at. (at / 4 ≡ ahead (s .a) 4 / 4) ⊎ (at / 4 ≡ ahead (s .a) 8 / 4))
 
 -- of an instruction that breaks no rule, in a memory of any length allowed
-pub record StopOrder (i : Instruction) (g : List ℕ) (f a : ℕ) (board : Board) : Type 0 where
-  pub is-24 : (stopOf i g f a board ≡ 24) ↔ Outside i g f a board
-  pub is-25 : (stopOf i g f a board ≡ 25) ↔ ((Outside i g f a board → ⊥) × Fetched i g f a)
-  pub is-none : (stopOf i g f a board ≡ 0) ↔ ((Outside i g f a board → ⊥) × (Fetched i g f a → ⊥))
+pub record StopOrder (i : Instruction) (s : State) : Type 0 where
+  pub is-24 : (stopOf i s ≡ 24) ↔ Outside i s
+  pub is-25 : (stopOf i s ≡ 25) ↔ ((Outside i s → ⊥) × Fetched i s)
+  pub is-none : (stopOf i s ≡ 0) ↔ ((Outside i s → ⊥) × (Fetched i s → ⊥))
 
 abbrev pub Ordered : Type 0
 Ordered =
-    (i : Instruction) (g : List ℕ) (f a : ℕ) (board : Board) → isOther i ≡ false → ruleBroken i ≡ 0
-    → firstMoved i g f a < 2 ^ 32 → board .length ≤ 65536 → StopOrder i g f a board
+    (i : Instruction) (s : State) → isOther i ≡ false → ruleBroken i s ≡ 0 → firstMoved i s < 2 ^ 32 → s .memory .board .size ≤ 65536
+    → StopOrder i s
 
 -- a block at 20 with a value in R1
 abbrev pub blockAt : ℕ → ℕ → ℕ → ℕ → ℕ
-blockAt word r1 length f = stopFor (Word word) (0 ∷ r1 ∷ replicate 13 0) f 0x20 (record { length = length })
+blockAt word r1 size f = stopFor (Word word) (state (0 ∷ r1 ∷ replicate 13 0) f 0x20 (memoryOf (record { size = size }) []))
 
 -- a block that meets both stops with 24
 pub record MarkedOrder : Type 0 where

@@ -3,11 +3,14 @@ ghost use mathlib.Core.Path.{_≡_};
 ghost use Rattle.word.specs.declared.Instruction.{Instruction};
 ghost use mathlib.Core.Bool.{_&&_};
 ghost use Rattle.transfer.specs.Single.{writesBase};
-ghost use Rattle.stops.specs.Stops.{is15, rsIs15, rmIs15, ruleBroken};
+ghost use Rattle.memory.specs.Memory.{Memory};
+ghost use Rattle.registers.specs.State.{state};
+ghost use Rattle.stops.specs.Rules.{firstBroken, is15, rsIs15, rmIs15, processingRules, singleRules, blockRules, ruleBroken};
 use datapath::alu::stores_result;
 use transfer::named::count;
 use transfer::single::writes_base;
 use word::Block;
+use word::Instruction;
 use word::Operand;
 use word::Processing;
 use word::Single;
@@ -45,8 +48,8 @@ fn rm_is_15(o: Operand) -> bool
 }
 
 // The first rule that is broken, or 0.
-pub fn processing_rule(i: Processing) -> u32
-    ensures { λ r. ⌜ r ≡ ruleBroken (Instruction.Processing i) ⌝ }
+pub fn processing_rule(i: Processing, registers: &[u32; 15], flags: u32, a: u32) -> u32
+    ensures { λ r. ⌜ ((mem : Memory) → r ≡ firstBroken 1 (processingRules i (state (now (registers .entry)) flags a mem))) ⌝ }
 {
     let o = i.operand;
     if rs_is_15(o) {
@@ -71,7 +74,7 @@ fn byte_15(i: Single) -> bool
 }
 
 pub fn single_rule(i: Single) -> u32
-    ensures { λ r. ⌜ r ≡ ruleBroken (Instruction.Single i) ⌝ }
+    ensures { λ r. ⌜ r ≡ firstBroken 3 (singleRules i) ⌝ }
 {
     if writes_15(i) {
         return 3;
@@ -84,7 +87,7 @@ pub fn single_rule(i: Single) -> u32
 }
 
 pub fn block_rule(b: Block) -> u32
-    ensures { λ r. ⌜ r ≡ ruleBroken (Instruction.Block b) ⌝ }
+    ensures { λ r. ⌜ r ≡ firstBroken 6 (blockRules b) ⌝ }
 {
     if 15 <= b.rn {
         return 6;
@@ -93,4 +96,17 @@ pub fn block_rule(b: Block) -> u32
         return 7;
     }
     if count(b.list) == 0 { 8 } else { 0 }
+}
+
+// The first rule of 23 that an instruction breaks in a state, or 0.
+pub fn rule_broken(i: Instruction, registers: &[u32; 15], flags: u32, a: u32) -> u32
+    ensures { λ r. ⌜ ((mem : Memory) → r ≡ ruleBroken i (state (now (registers .entry)) flags a mem)) ⌝ }
+{
+    match i {
+        Instruction::Processing(p) => processing_rule(p, registers, flags, a),
+        Instruction::Single(s) => single_rule(s),
+        Instruction::Block(b) => block_rule(b),
+        Instruction::Branch(_) => 0,
+        Instruction::Other(_) => 0,
+    }
 }

@@ -1,4 +1,4 @@
-// Stops 22 to 25 of an instruction whose condition passes.
+// The stop that is met where an instruction begins, 21 to 25 in their order.
 ghost use mathlib.Core.Path.{_≡_};
 ghost use mathlib.Core.Bool.{_||_};
 ghost use mathlib.Core.List.{List, []};
@@ -6,9 +6,15 @@ ghost use Rattle.datapath.specs.Counter.{ahead};
 ghost use Prim.Native.Nat.{ℕ};
 ghost use Rattle.bits.specs.Choice.{pick};
 ghost use Rattle.word.specs.declared.Instruction.{Instruction};
-ghost use Rattle.stops.specs.Stops.{span, hits, ordered, movedStop, stopOf, stopFor};
-ghost use Rattle.stops.specs.declared.Board.{Board};
-use crate::Board;
+ghost use Rattle.memory.specs.Memory.{Memory, memoryOf};
+ghost use Rattle.registers.specs.State.{state};
+ghost use Rattle.stops.specs.Moves.{span};
+ghost use Rattle.stops.specs.Stops.{hits, ordered, movedStop, stopOf, stopFor};
+use crate::BROKEN_RULE;
+use crate::FETCHED_WORD;
+use crate::NO_WORD;
+use crate::OTHER_WORD;
+use crate::OUTSIDE_MEMORY;
 use crate::rules::block_rule;
 use crate::rules::processing_rule;
 use crate::rules::single_rule;
@@ -17,6 +23,7 @@ use crate::span::outside;
 use bits::field;
 use condition::passes;
 use datapath::counter::ahead;
+use memory::Board;
 use memory::Fetched;
 use transfer::block::lowest_address;
 use transfer::named::count;
@@ -28,10 +35,10 @@ use word::Single;
 use word::reader::read;
 
 // A word at A+4 or A+8 is among them.
-fn fetched_ahead(first: u32, n: u32, a: u32) -> bool
-    ensures { λ r. ⌜ r ≡ (hits (span n first) (ahead a 4) || hits (span n first) (ahead a 8)) ⌝ }
+fn fetched_ahead(first: u32, n: u32, a: u32, board: Board) -> bool
+    ensures { λ r. ⌜ r ≡ (hits (span n first) (ahead a 4) board || hits (span n first) (ahead a 8) board) ⌝ }
 {
-    hits(first, n, ahead(a, 4)) | hits(first, n, ahead(a, 8))
+    hits(first, n, ahead(a, 4), board) | hits(first, n, ahead(a, 8), board)
 }
 
 // 24 before 25.
@@ -39,65 +46,69 @@ fn ordered(out: bool, fetched: bool) -> u32
     ensures { λ r. ⌜ r ≡ ordered out fetched ⌝ }
 {
     if out {
-        return 24;
+        return OUTSIDE_MEMORY;
     }
-    if fetched { 25 } else { 0 }
+    if fetched { FETCHED_WORD } else { 0 }
 }
 
 // 24 and 25 of n words from a first address on.
 fn moved_stop(first: u32, n: u32, load: bool, a: u32, board: Board) -> u32
     ensures { λ r. ⌜ r ≡ movedStop (span n first) (pick load [] (span n first)) a board ⌝ }
 {
-    let out = outside(first, n, board.length);
+    let out = outside(first, n, board);
     if load {
         return ordered(out, false);
     }
-    ordered(out, fetched_ahead(first, n, a))
+    ordered(out, fetched_ahead(first, n, a, board))
 }
 
-pub fn processing_stop(i: Processing) -> u32
-    ensures { λ r. ⌜ ((g : List ℕ) (f a : ℕ) (board : Board) → r ≡ stopOf (Instruction.Processing i) g f a board) ⌝ }
+pub fn processing_stop(i: Processing, registers: &[u32; 15], flags: u32, a: u32) -> u32
+    ensures { λ r. ⌜ ((mem : Memory) → r ≡ stopOf (Instruction.Processing i) (state (now (registers .entry)) flags a mem)) ⌝ }
 {
-    if processing_rule(i) == 0 { 0 } else { 23 }
+    if processing_rule(i, registers, flags, a) == 0 {
+        0
+    } else {
+        BROKEN_RULE
+    }
 }
 
 pub fn single_stop(i: Single, registers: &[u32; 15], flags: u32, a: u32, board: Board) -> u32
-    ensures { λ r. ⌜ r ≡ stopOf (Instruction.Single i) (now (registers .entry)) flags a board ⌝ }
+    ensures { λ r. ⌜ ((bytes : List ℕ) → r ≡ stopOf (Instruction.Single i) (state (now (registers .entry)) flags a (memoryOf board bytes))) ⌝ }
 {
     if single_rule(i) != 0 {
-        return 23;
+        return BROKEN_RULE;
     }
     moved_stop(address(i, registers, flags, ahead(a, 8)), 1, i.l, a, board)
 }
 
 pub fn block_stop(i: Block, registers: &[u32; 15], flags: u32, a: u32, board: Board) -> u32
-    ensures { λ r. ⌜ r ≡ stopOf (Instruction.Block i) (now (registers .entry)) flags a board ⌝ }
+    ensures { λ r. ⌜ ((bytes : List ℕ) → r ≡ stopOf (Instruction.Block i) (state (now (registers .entry)) flags a (memoryOf board bytes))) ⌝ }
 {
     if block_rule(i) != 0 {
-        return 23;
+        return BROKEN_RULE;
     }
     moved_stop(lowest_address(i, registers), count(i.list), i.l, a, board)
 }
 
 // An Other meets 22, and a branch meets none.
 fn instruction_stop(i: Instruction, registers: &[u32; 15], flags: u32, a: u32, board: Board) -> u32
-    ensures { λ r. ⌜ r ≡ stopOf i (now (registers .entry)) flags a board ⌝ }
+    ensures { λ r. ⌜ ((bytes : List ℕ) → r ≡ stopOf i (state (now (registers .entry)) flags a (memoryOf board bytes))) ⌝ }
 {
     match i {
-        Instruction::Processing(p) => processing_stop(p),
+        Instruction::Processing(p) => processing_stop(p, registers, flags, a),
         Instruction::Single(s) => single_stop(s, registers, flags, a, board),
         Instruction::Block(b) => block_stop(b, registers, flags, a, board),
         Instruction::Branch(_) => 0,
-        Instruction::Other(_) => 22,
+        Instruction::Other(_) => OTHER_WORD,
     }
 }
 
 // The stop that what was fetched at `a` meets, or 0.
 pub fn stop_for(x: Fetched, registers: &[u32; 15], flags: u32, a: u32, board: Board) -> u32
-    ensures { λ r. ⌜ r ≡ stopFor x (now (registers .entry)) flags a board ⌝ }
+    ensures { λ r. ⌜ ((bytes : List ℕ) → r ≡ stopFor x (state (now (registers .entry)) flags a (memoryOf board bytes))) ⌝ }
 {
     let Fetched::Word(word) = x else {
-        return 21;
+        return NO_WORD;
     };
     if passes(field(word, 28, 4), flags) {
         instruction_stop(read(word), registers, flags, a, board)

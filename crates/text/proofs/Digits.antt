@@ -10,7 +10,8 @@ use borrow.Author.Tests.{lt-ltb}
 use lib.Dec.{ltb}
 use lib.ListN.{length, length-append}
 use Rattle.bits.specs.Choice.{pick}
-use Rattle.text.specs.Text.{digit, hexDigits, decimalDigits, decimal}
+use Rattle.text.specs.Digit.{digit}
+use Rattle.text.specs.Text.{hexDigits, decimalDigits, decimal}
 
 pub hex-length : (k n : ℕ) → length (hexDigits k n) ≡ k
 unfolding hexDigits
@@ -42,6 +43,8 @@ decimal-more (suc k) n h =
     rw (decimal-more k (n / 10) less)
 
 -- the last digit of a number, after the others
-pub decimal-tens : (n : ℕ) → n < 2 ^ 64 → decimal n ≡ pick (ltb n 10) [] (decimal (n / 10)) ++ (digit (n % 10) ∷ [])
+pub decimal-tens : (n : ℕ) → n < 2 ^ 64 → decimal n ≡ pick (ltb n 10) [] (decimal (n / 10)) ++ (digit (n % 10 % 16) ∷ [])
 unfolding decimalDigits
-decimal-tens n h = rw (decimal-more 18 (n / 10) (omega arith))
+decimal-tens n h =
+    let small : n % 10 % 16 ≡ n % 10 = omega arith in
+    rw (decimal-more 18 (n / 10) (omega arith), small)

@@ -1,13 +1,9 @@
 -- Text as bytes: decimal and hexadecimal numbers.
-use Prim.Native.Nat.{ℕ, zero, suc, _+_, _/_, _%_}
-use mathlib.Core.Bool.{Bool}
+use Prim.Native.Nat.{ℕ, zero, suc, _/_, _%_}
 use mathlib.Core.List.{List, [], _∷_, _++_}
 use lib.Dec.{ltb}
 use Rattle.bits.specs.Choice.{pick}
-
--- a digit below 16, upper case
-abbrev pub digit : ℕ → ℕ
-digit d = pick (ltb d 10) (48 + d) (55 + d)
+use Rattle.text.specs.Digit.{digit}
 
 -- the k lowest hexadecimal digits of n, the highest first
 unfoldable pub hexDigits : ℕ → ℕ → List ℕ

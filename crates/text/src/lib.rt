@@ -1,8 +1,9 @@
 // Text put into a lent buffer of 512 bytes, piece after piece. Each call takes the place where the text ends and hands
 // back where it ends then; what does not fit is left out, so that callers owe no proof of room.
+pub mod digit;
+
 ghost use mathlib.Core.Path.{_≡_};
-ghost use Prim.Native.Nat.{_<_};
-ghost use Rattle.text.specs.Text.{digit, hexDigits, decimal};
+ghost use Rattle.text.specs.Text.{hexDigits, decimal};
 ghost use Rattle.text.specs.Output.{output, putByte, put};
 
 fn byte(out: &mut [u8; 512], at: usize, b: u8) -> usize
@@ -13,18 +14,6 @@ fn byte(out: &mut [u8; 512], at: usize, b: u8) -> usize
         at + 1
     } else {
         at
-    }
-}
-
-// A digit below 16, upper case.
-fn digit(out: &mut [u8; 512], at: usize, d: u8) -> usize
-    requires { ⌜ d < 16 ⌝ }
-    ensures { λ r. ⌜ output (now (out .exit)) r ≡ putByte (output (now (out .entry)) at) (digit d) ⌝ }
-{
-    if d < 10 {
-        byte(out, at, 48 + d)
-    } else {
-        byte(out, at, 55 + d)
     }
 }
 
@@ -46,15 +35,15 @@ pub fn hex(out: &mut [u8; 512], at: usize, n: u32, digits: usize) -> usize
         return at;
     }
     let end = hex(out, at, n / 16, digits - 1);
-    digit(out, end, (n % 16) as u8)
+    byte(out, end, digit::byte_of(n))
 }
 
 pub fn decimal(out: &mut [u8; 512], at: usize, n: u64) -> usize
     ensures { λ r. ⌜ output (now (out .exit)) r ≡ put (output (now (out .entry)) at) (decimal n) ⌝ }
 {
     if n < 10 {
-        return digit(out, at, (n % 10) as u8);
+        return byte(out, at, digit::byte_of((n % 10) as u32));
     }
     let end = decimal(out, at, n / 10);
-    digit(out, end, (n % 10) as u8)
+    byte(out, end, digit::byte_of((n % 10) as u32))
 }

@@ -1,2 +1,1 @@
 pub mod Token
-pub mod Buffer

@@ -1,21 +1,14 @@
--- A token of a case: a word as eight upper-case hexadecimal digits, the highest first.
-use Prim.Native.Nat.{ℕ, _+_, _*_, _-_, _^_}
+-- A token of a case: a word as eight hexadecimal digits, the highest first.
+use Prim.Native.Nat.{ℕ, _+_, _*_, _%_, _^_}
 use mathlib.Core.List.{List}
-use lib.Dec.{ltb}
 use lib.ListN.{getD}
-use Rattle.bits.specs.Choice.{pick}
+use Rattle.text.specs.Digit.{valueOf}
 
--- 0 to 9 (48 to 57) and A to F (65 to 70); any other byte counts as 0
-unfoldable pub digitOf : ℕ → ℕ
-digitOf byte =
-    pick (ltb byte 48) 0
-    (pick (ltb byte 58) (byte - 48)
-    (pick (ltb byte 65) 0
-    (pick (ltb byte 71) (byte - 65 + 10) 0)))
+-- a byte's two digits; a byte of text that is no digit counts as 0
+abbrev pub pairOf : ℕ → ℕ → ℕ
+pairOf high low = valueOf high % 16 * 16 + valueOf low % 16
 
--- a byte's two digits, at places k and k + 1 of a text
-abbrev pub byteAt : List ℕ → ℕ → ℕ
-byteAt text k = digitOf (getD text k 0) * 16 + digitOf (getD text (k + 1) 0)
-
-unfoldable pub valueOf : List ℕ → ℕ
-valueOf text = byteAt text 0 * 2 ^ 24 + byteAt text 2 * 2 ^ 16 + byteAt text 4 * 2 ^ 8 + byteAt text 6
+unfoldable pub wordOf : List ℕ → ℕ
+wordOf text =
+    let at : ℕ → ℕ = λ k. pairOf (getD text k 0) (getD text (k + 1) 0) in
+    at 0 * 2 ^ 24 + at 2 * 2 ^ 16 + at 4 * 2 ^ 8 + at 6

@@ -1,39 +1,34 @@
-// The buffer that holds a case's memory. It is longer than any memory that a start takes, so that a longer one can be lent.
+// The memory of a case, in a buffer that is longer than any memory that a start takes, so that a longer one can be lent.
 ghost use mathlib.Core.Path.{_≡_};
-ghost use Prim.Native.Nat.{_≤_};
-ghost use lib.ListN.{length, replicate};
-ghost use Rattle.tokens.specs.Buffer.{room, within};
+ghost use Prim.Native.Nat.{min};
+ghost use lib.ListN.{length};
+ghost use Rattle.io.specs.Counts.{Counts};
 use crate::token;
-use memory::write_word;
+use memory::bytes::put_word;
 
-// Its length is said apart for the sake of lending it as a slice.
-pub fn zeros() -> [u8; 65544]
-    ensures { λ r. ⌜ r ≡ replicate room 0 ⌝ }
-    ensures { λ r. ⌜ room ≡ length r ⌝ }
-{
-    [0; 65544]
-}
+pub const BYTES: usize = 65544;
 
-// No more than the buffer has.
-pub fn bytes(n: u32) -> usize
-    ensures { λ r. ⌜ r ≡ within n ⌝ }
-    ensures { λ r. ⌜ r ≤ room ⌝ }
+// So much of it as n bytes need.
+pub fn bytes(memory: &[u8], n: u32) -> usize
+    ensures { λ r. ⌜ Counts r (now (memory .entry)) ⌝ }
+    ensures { λ r. ⌜ r ≡ min n (length (now (memory .entry))) ⌝ }
 {
-    if n < 65544 { n as usize } else { 65544 }
+    let n = n as usize;
+    if n < memory.len() { n } else { memory.len() }
 }
 
 // A word outside the memory is passed over.
 fn store(memory: &mut [u8], i: u32, word: u32) {
     if i < 16386 {
-        write_word(memory, i * 4, word);
+        put_word(memory, i * 4, word);
     }
 }
 
-// The next k tokens, as words from address 0 on.
+// The next k words of the input, from address 0 on.
 pub fn read_words(memory: &mut [u8], k: u32) {
-    let mut i: u32 = 0;
-    while i < k {
-        store(memory, i, token::word());
-        i += 1;
+    for i in 0..k {
+        let mut word = [0u32; 1];
+        token::read(&mut word);
+        store(memory, i, word[0]);
     }
 }

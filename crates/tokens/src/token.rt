@@ -1,62 +1,34 @@
-// A token of input: a word as eight upper-case hexadecimal digits, and a byte that ends it.
+// A token of input: a word as eight hexadecimal digits, and a byte that ends it.
 ghost use mathlib.Core.Path.{_≡_};
-ghost use Prim.Native.Nat.{_+_, _*_, _≤_};
-ghost use Rattle.tokens.specs.Token.{digitOf, valueOf};
+ghost use Prim.Native.Nat.{_≤_};
+ghost use Rattle.tokens.specs.Token.{pairOf, wordOf};
 use libc::STDIN_FILENO;
+use text::digit::value_of;
 
-pub enum Token {
-    Word(u32),
-    End,
-}
-
-pub fn read() -> Token {
-    let mut text = [0u8; 9];
-    if io::read_full(STDIN_FILENO, &mut text) < 9 {
-        return Token::End;
+// The next words of the input, as many as the buffer has. Answers whether there were so many.
+pub fn read(words: &mut [u32]) -> bool {
+    for i in 0..words.len() {
+        let mut text = [0u8; 9];
+        if io::read_full(STDIN_FILENO, &mut text) < 9 {
+            return false;
+        }
+        words[i] = word(&text);
     }
-    Token::Word(value(&text))
+    true
 }
 
-// The next word, or 0 past the end.
-pub fn word() -> u32 {
-    match read() {
-        Token::Word(word) => word,
-        Token::End => 0,
-    }
-}
-
-pub fn value(text: &[u8; 9]) -> u32
-    ensures { λ r. ⌜ r ≡ valueOf (now (text .entry)) ⌝ }
+fn word(text: &[u8; 9]) -> u32
+    ensures { λ r. ⌜ r ≡ wordOf (now (text .entry)) ⌝ }
 {
-    byte(text[0], text[1]) * 0x1000000
-        + byte(text[2], text[3]) * 0x10000
-        + byte(text[4], text[5]) * 0x100
-        + byte(text[6], text[7])
+    pair(text[0], text[1]) * 0x1000000
+        + pair(text[2], text[3]) * 0x10000
+        + pair(text[4], text[5]) * 0x100
+        + pair(text[6], text[7])
 }
 
-fn byte(high: u8, low: u8) -> u32
-    ensures { λ r. ⌜ r ≡ digitOf high * 16 + digitOf low ⌝ }
+fn pair(high: u8, low: u8) -> u32
+    ensures { λ r. ⌜ r ≡ pairOf high low ⌝ }
     ensures { λ r. ⌜ r ≤ 255 ⌝ }
 {
-    digit(high) * 16 + digit(low)
-}
-
-// 0 to 9 and A to F; any other byte counts as 0.
-fn digit(byte: u8) -> u32
-    ensures { λ r. ⌜ r ≡ digitOf byte ⌝ }
-    ensures { λ r. ⌜ r ≤ 15 ⌝ }
-{
-    if byte < b'0' {
-        return 0;
-    }
-    if byte <= b'9' {
-        return (byte - b'0') as u32;
-    }
-    if byte < b'A' {
-        return 0;
-    }
-    if byte <= b'F' {
-        return (byte - b'A') as u32 + 10;
-    }
-    0
+    value_of(high) % 16 * 16 + value_of(low) % 16
 }

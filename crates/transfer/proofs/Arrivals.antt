@@ -12,7 +12,7 @@ use lib.ListN.{length, getD, set}
 use lib.Seq.{getD-set-same, getD-set-other}
 use borrow.Author.Tests.{lt-ltb}
 use Rattle.bits.specs.Choice.{pick}
-use Rattle.memory.specs.Memory.{readWord}
+use Rattle.memory.specs.Memory.{Memory, readWord}
 use Rattle.registers.specs.declared.Goes.the-variants.{Next, To}
 use Rattle.registers.specs.Registers.{put, out, arrives}
 use Rattle.transfer.specs.Block.{next, loads}
@@ -22,7 +22,7 @@ use Rattle.transfer.proofs.Lengths.{put-length}
 use Rattle.transfer.proofs.Written.{put-other, put-same}
 
 -- the word of register x goes to it, and the rest is kept
-module _ (f : ℕ) (mem : List ℕ) where
+module _ (f : ℕ) (mem : Memory) where
   -- registers that are not named
   pub loads-kept : (xs g : List ℕ) (a r : ℕ) → Absent r xs → getD (loads xs g f a mem .registers) r 0 ≡ getD g r 0
   unfolding loads arrives

@@ -8,7 +8,7 @@ use native.Mathlib.Omega.{arith}
 use lib.ListN.{length, getD}
 use Rattle.word.specs.declared.Block.{Block}
 use Rattle.datapath.specs.Counter.{r15Word}
-use Rattle.memory.specs.Memory.{readWord}
+use Rattle.memory.specs.Memory.{Memory, readWord}
 use Rattle.registers.specs.Registers.{register}
 use Rattle.transfer.specs.Single.{storedValue}
 use Rattle.transfer.specs.Block.{named, baseOf, changedBase, lowestAddress, withBase}
@@ -28,7 +28,7 @@ register-alike : (g h : List ℕ) (x r15 : ℕ) → getD h x 0 ≡ getD g x 0 �
 unfolding register
 register-alike g h x r15 e = rw e
 
-module _ (i : Block) (g : List ℕ) (r : i .rn < 15) (words : Words g) (mem : List ℕ) (inside : Inside i g mem) where
+module _ (i : Block) (g : List ℕ) (r : i .rn < 15) (words : Words g) (mem : Memory) (inside : Inside i g mem) where
   abbrev xs : List ℕ
   xs = named (i .list)
 
@@ -38,7 +38,7 @@ module _ (i : Block) (g : List ℕ) (r : i .rn < 15) (words : Words g) (mem : Li
   abbrev h : List ℕ
   h = withBase i g (changedBase i g)
 
-  fits : low + 4 * length xs ≤ length mem
+  fits : low + 4 * length xs ≤ length (mem .bytes)
   fits = omega (arith, inside .0, named-below (i .list))
 
   module _ (f a12 : ℕ) where
@@ -48,7 +48,7 @@ module _ (i : Block) (g : List ℕ) (r : i .rn < 15) (words : Words g) (mem : Li
     new : (n : ℕ) → storedValue h n f a12 < 2 ^ 32
     new n = stored-lt h f a12 n (base-words i g r words)
 
-    abbrev after : List ℕ
+    abbrev after : Memory
     after = afterStore i g f a12 mem
 
     at-first : (x : ℕ) → At x 0 xs → readWord after (low + 4 * 0) ≡ register g x (r15Word f a12)

@@ -9,7 +9,7 @@ use lib.ListN.{length, set, length-set}
 use Rattle.bits.specs.Choice.{pick}
 use Rattle.word.specs.declared.Single.{Single}
 use Rattle.word.specs.declared.Block.{Block}
-use Rattle.memory.specs.Memory.{writeWord, writeByte}
+use Rattle.memory.specs.Memory.{Memory, writeWord, writeByte}
 use Rattle.memory.proofs.Laws.{write-length, write-byte-length}
 use Rattle.registers.specs.Registers.{put}
 use Rattle.transfer.specs.Single as Single
@@ -35,21 +35,29 @@ pub block-base-length : (i : Block) (g : List ℕ) (base : ℕ) → length (Bloc
 unfolding Block.withBase
 block-base-length i g base = pick-length (i .w) (put g (i .rn) base) g (length g) (put-length g (i .rn) base) refl
 
--- ---- memory
+-- ---- memory: bytes on the board that they were on
 
-pub stored-to-length : (i : Single) (mem : List ℕ) (a v : ℕ) → length (Single.storedTo i mem a v) ≡ length mem
+pub record Alike (m n : Memory) : Type 0 where
+  pub board : m .board ≡ n .board
+  pub length : length (m .bytes) ≡ length (n .bytes)
+
+pub stored-to-alike : (i : Single) (mem : Memory) (a v : ℕ) → Alike (Single.storedTo i mem a v) mem
 unfolding Single.storedTo
-stored-to-length i mem a v =
-    pick-length (i .b) (writeByte mem a v) (writeWord mem a v) (length mem) (write-byte-length mem a v) (write-length mem a v)
+stored-to-alike i mem a v = go (i .b)
+  where
+    go : (b : Bool) → Alike (pick b (writeByte mem a v) (writeWord mem a v)) mem
+    go true = record { board = refl; length = write-byte-length mem a v }
+    go false = record { board = refl; length = write-length mem a v }
 
-pub stores-length : (xs g : List ℕ) (f a12 a : ℕ) (mem : List ℕ) → length (Block.stores xs g f a12 a mem) ≡ length mem
+pub written-alike : (mem : Memory) (a v : ℕ) {n : Memory} → Alike n (writeWord mem a v) → Alike n mem
+written-alike mem a v e = record { board = e .board; length = e .length ∙ write-length mem a v }
+
+pub stores-alike : (xs g : List ℕ) (f a12 a : ℕ) (mem : Memory) → Alike (Block.stores xs g f a12 a mem) mem
 unfolding Block.stores
-stores-length [] g f a12 a mem = refl
-stores-length (x ∷ xs) g f a12 a mem =
-    stores-length xs g f a12 (Block.next a) (writeWord mem a (Single.storedValue g x f a12)) ∙ write-length mem a (Single.storedValue g x f a12)
+stores-alike [] g f a12 a mem = record { board = refl; length = refl }
+stores-alike (x ∷ xs) g f a12 a mem = written-alike mem a _ (stores-alike xs g f a12 (Block.next a) (writeWord mem a (Single.storedValue g x f a12)))
 
-pub stores-all-length : (xs g h : List ℕ) (f a12 a : ℕ) (mem : List ℕ) → length (Block.storesAll xs g h f a12 a mem) ≡ length mem
+pub stores-all-alike : (xs g h : List ℕ) (f a12 a : ℕ) (mem : Memory) → Alike (Block.storesAll xs g h f a12 a mem) mem
 unfolding Block.storesAll
-stores-all-length [] g h f a12 a mem = refl
-stores-all-length (x ∷ xs) g h f a12 a mem =
-    stores-length xs h f a12 (Block.next a) (writeWord mem a (Single.storedValue g x f a12)) ∙ write-length mem a (Single.storedValue g x f a12)
+stores-all-alike [] g h f a12 a mem = record { board = refl; length = refl }
+stores-all-alike (x ∷ xs) g h f a12 a mem = written-alike mem a _ (stores-alike xs h f a12 (Block.next a) (writeWord mem a (Single.storedValue g x f a12)))

@@ -5,13 +5,13 @@ use mathlib.Core.List.{List, [], _∷_, tail}
 use Prim.Native.Nat.{ℕ, _<_}
 use native.Mathlib.Omega.{arith}
 use lib.ListN.{length, getD, take}
-use Rattle.memory.specs.Memory.{readWord, writeWord}
+use Rattle.memory.specs.Memory.{Memory, readWord, writeWord}
 use Rattle.registers.specs.declared.Goes.the-variants.{Next}
 use Rattle.registers.specs.Registers.{put, out, arrives}
 use Rattle.transfer.specs.Single.{storedValue}
 use Rattle.transfer.specs.Block.{next, loads, stores, storesAll}
 
-module _ (g : List ℕ) (f a : ℕ) (mem : List ℕ) where
+module _ (g : List ℕ) (f a : ℕ) (mem : Memory) where
   pub loads-none : (xs : List ℕ) → length xs ≡ 0 → loads xs g f a mem ≡ out g f Next
   unfolding loads
   loads-none [] h = refl
@@ -30,7 +30,7 @@ module _ (g : List ℕ) (f a : ℕ) (mem : List ℕ) where
   loads-step (x ∷ []) h = absurd (omega arith)
   loads-step (x ∷ (y ∷ ys)) h = refl
 
-module _ (g : List ℕ) (f a12 a : ℕ) (mem : List ℕ) where
+module _ (g : List ℕ) (f a12 a : ℕ) (mem : Memory) where
   pub stores-none : (xs : List ℕ) → length xs ≡ 0 → stores xs g f a12 a mem ≡ mem
   unfolding stores
   stores-none [] h = refl

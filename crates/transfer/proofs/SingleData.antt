@@ -3,13 +3,14 @@
 use mathlib.Core.Path.{refl}
 use Rattle.bits.specs.Bits.{field, bit}
 use Rattle.datapath.specs.Shifter.{rotated, signed, lsl, lsr, asr, ror, shift, byAmount}
-use Rattle.memory.specs.Memory.{holdsWord, readWord, writeWord, readByte, writeByte}
+use Rattle.memory.specs.Bytes.{holdsWord, wordIn, withWord, byteIn, withByte}
+use Rattle.memory.specs.Memory.{place}
 use Rattle.registers.specs.Registers.{register}
 use Rattle.transfer.specs.Single.{offsetOf, loadedValue, storedTo}
 use Rattle.transfer.specs.SingleData.{SingleData}
 
 pub single-data : SingleData
-unfolding field bit rotated signed lsl lsr asr ror shift byAmount holdsWord readWord writeWord readByte writeByte register offsetOf loadedValue storedTo
+unfolding field bit rotated signed lsl lsr asr ror shift byAmount holdsWord wordIn withWord byteIn withByte place register offsetOf loadedValue storedTo
 single-data = record {
   words = refl;
   bytes = refl;

@@ -6,7 +6,8 @@ use lib.ListN.{length}
 use Rattle.bits.specs.Choice.{pick}
 use Rattle.bits.specs.Bits.{bit}
 use Rattle.word.specs.declared.Block.{Block}
-use Rattle.memory.specs.Memory.{readWord, writeWord, wordBase}
+use Rattle.memory.specs.Bytes.{wordBase}
+use Rattle.memory.specs.Memory.{Memory, readWord, writeWord}
 use Rattle.registers.specs.declared.Goes.the-variants.{Next}
 use Rattle.registers.specs.Registers.{register, put, Out, out, arrives}
 use Rattle.transfer.specs.Single.{moved, storedValue}
@@ -53,17 +54,17 @@ abbrev pub next : ℕ → ℕ
 next address = (address + 4) % 2 ^ 32
 
 -- the named registers loaded from an address on; R15, the last if named, goes to the counter. A loaded base wins
-unfoldable pub loads : List ℕ → List ℕ → ℕ → ℕ → List ℕ → Out
+unfoldable pub loads : List ℕ → List ℕ → ℕ → ℕ → Memory → Out
 loads [] g f address mem = out g f Next
 loads (x ∷ []) g f address mem = arrives g f x (readWord mem address)
 loads (x ∷ (y ∷ ys)) g f address mem = loads (y ∷ ys) (put g x (readWord mem address)) f (next address) mem
 
 -- the named registers stored from an address on
-unfoldable pub stores : List ℕ → List ℕ → ℕ → ℕ → ℕ → List ℕ → List ℕ
+unfoldable pub stores : List ℕ → List ℕ → ℕ → ℕ → ℕ → Memory → Memory
 stores [] g f a12 address mem = mem
 stores (x ∷ xs) g f a12 address mem = stores xs g f a12 (next address) (writeWord mem address (storedValue g x f a12))
 
 -- the lowest is stored from the old registers g, the others from those with the changed base, h
-unfoldable pub storesAll : List ℕ → List ℕ → List ℕ → ℕ → ℕ → ℕ → List ℕ → List ℕ
+unfoldable pub storesAll : List ℕ → List ℕ → List ℕ → ℕ → ℕ → ℕ → Memory → Memory
 storesAll [] g h f a12 address mem = mem
 storesAll (x ∷ xs) g h f a12 address mem = stores xs h f a12 (next address) (writeWord mem address (storedValue g x f a12))

@@ -10,7 +10,8 @@ use Rattle.bits.specs.Choice.{pick}
 use Rattle.bits.specs.Bits.{bit}
 use Rattle.word.specs.declared.Block.{Block}
 use Rattle.datapath.specs.Counter.{r15Word}
-use Rattle.memory.specs.Memory.{readWord, wordBase}
+use Rattle.memory.specs.Bytes.{wordBase}
+use Rattle.memory.specs.Memory.{Memory, readWord}
 use Rattle.registers.specs.declared.Goes.the-variants.{Next, To}
 use Rattle.registers.specs.Registers.{register, Out}
 use Rattle.transfer.specs.Block.{named, baseOf, changedBase, lowestAddress, withBase, loads, storesAll}
@@ -45,8 +46,8 @@ pub record BlockModes (i : Block) (g : List ℕ) : Type 0 where
 
 -- ---- what is moved, where all of the block is inside memory
 
-abbrev pub Inside : Block → List ℕ → List ℕ → Type 0
-Inside i g mem = (lowestAddress i g + 4 * namedBelow i 16 ≤ length mem) × (length mem < 2 ^ 32)
+abbrev pub Inside : Block → List ℕ → Memory → Type 0
+Inside i g mem = (lowestAddress i g + 4 * namedBelow i 16 ≤ length (mem .bytes)) × (length (mem .bytes) < 2 ^ 32)
 
 -- fifteen registers of 32 bits
 abbrev pub Words : List ℕ → Type 0
@@ -56,11 +57,11 @@ Words g = (length g ≡ 15) × ((x : ℕ) → getD g x 0 < 2 ^ 32)
 abbrev pub newBase : Block → List ℕ → ℕ
 newBase i g = pick (i .w) (changedBase i g) (baseOf i g)
 
-abbrev pub afterStore : Block → List ℕ → ℕ → ℕ → List ℕ → List ℕ
+abbrev pub afterStore : Block → List ℕ → ℕ → ℕ → Memory → Memory
 afterStore i g f a12 mem = storesAll (named (i .list)) g (withBase i g (changedBase i g)) f a12 (lowestAddress i g) mem
 
 -- memory after a store
-pub record BlockStored (i : Block) (g : List ℕ) (f a12 : ℕ) (mem : List ℕ) : Type 0 where
+pub record BlockStored (i : Block) (g : List ℕ) (f a12 : ℕ) (mem : Memory) : Type 0 where
   -- each named register is at its own word, R15 as the flags with A+12
   pub stored : (x : ℕ) → x < 16 → bit (i .list) x ≡ true → x ≢ i .rn
       → readWord (afterStore i g f a12 mem) (placeOf i g x) ≡ register g x (r15Word f a12)
@@ -74,11 +75,11 @@ pub record BlockStored (i : Block) (g : List ℕ) (f a12 : ℕ) (mem : List ℕ)
   pub kept : (b : ℕ) → (b / 4 < lowestAddress i g / 4) ⊎ (lowestAddress i g / 4 + namedBelow i 16 ≤ b / 4)
       → readWord (afterStore i g f a12 mem) b ≡ readWord mem b
 
-abbrev pub afterLoad : Block → List ℕ → ℕ → List ℕ → Out
+abbrev pub afterLoad : Block → List ℕ → ℕ → Memory → Out
 afterLoad i g f mem = loads (named (i .list)) (withBase i g (changedBase i g)) f (lowestAddress i g) mem
 
 -- registers, flags and counter after a load
-pub record BlockLoaded (i : Block) (g : List ℕ) (f : ℕ) (mem : List ℕ) : Type 0 where
+pub record BlockLoaded (i : Block) (g : List ℕ) (f : ℕ) (mem : Memory) : Type 0 where
   -- each named register is from its own word: a loaded base wins
   pub loaded : (x : ℕ) → x < 15 → bit (i .list) x ≡ true → getD (afterLoad i g f mem .registers) x 0 ≡ readWord mem (placeOf i g x)
   -- a base that is not loaded
@@ -93,5 +94,5 @@ pub record BlockLoaded (i : Block) (g : List ℕ) (f : ℕ) (mem : List ℕ) : T
 -- of every block: what is moved, with a base that is not R15
 pub record Blocks : Type 0 where
   pub modes : (i : Block) (g : List ℕ) → BlockModes i g
-  pub stores : (i : Block) (g : List ℕ) (f a12 : ℕ) (mem : List ℕ) → i .rn < 15 → Words g → Inside i g mem → BlockStored i g f a12 mem
-  pub loads : (i : Block) (g : List ℕ) (f : ℕ) (mem : List ℕ) → i .rn < 15 → Words g → Inside i g mem → BlockLoaded i g f mem
+  pub stores : (i : Block) (g : List ℕ) (f a12 : ℕ) (mem : Memory) → i .rn < 15 → Words g → Inside i g mem → BlockStored i g f a12 mem
+  pub loads : (i : Block) (g : List ℕ) (f : ℕ) (mem : Memory) → i .rn < 15 → Words g → Inside i g mem → BlockLoaded i g f mem

@@ -9,7 +9,7 @@ use Rattle.word.specs.declared.Single.{Single}
 use Rattle.datapath.specs.Shifter.{byAmount, rotated}
 use Rattle.datapath.specs.Alu.{carryOf}
 use Rattle.datapath.specs.Counter.{r15Word}
-use Rattle.memory.specs.Memory.{readWord, writeWord, readByte, writeByte}
+use Rattle.memory.specs.Memory.{Memory, readWord, writeWord, readByte, writeByte}
 use Rattle.registers.specs.Registers.{register, put}
 
 -- twelve bits, or Rm shifted. R15 as Rm meets 23, and a single has no shift by register: what they give here is not used
@@ -37,12 +37,12 @@ unfoldable pub withBase : Single → List ℕ → ℕ → List ℕ
 withBase i g base = pick (writesBase i) (put g (i .rn) base) g
 
 -- a byte is zero-extended; a word is rotated right by 8 times the low two address bits
-unfoldable pub loadedValue : Single → List ℕ → ℕ → ℕ
+unfoldable pub loadedValue : Single → Memory → ℕ → ℕ
 loadedValue i mem address = pick (i .b) (readByte mem address) (rotated (readWord mem address) (8 * (address % 4)))
 
 -- register n as it is stored; R15 is stored as the flags with a12, which is A+12
 unfoldable pub storedValue : List ℕ → ℕ → ℕ → ℕ → ℕ
 storedValue g n f a12 = register g n (r15Word f a12)
 
-unfoldable pub storedTo : Single → List ℕ → ℕ → ℕ → List ℕ
+unfoldable pub storedTo : Single → Memory → ℕ → ℕ → Memory
 storedTo i mem address v = pick (i .b) (writeByte mem address v) (writeWord mem address v)

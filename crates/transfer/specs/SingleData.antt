@@ -6,6 +6,7 @@ use mathlib.Core.List.{List, [], _∷_, map}
 use lib.ListN.{replicate}
 use Rattle.word.specs.declared.Operand.the-variants.{Constant, ShiftByAmount}
 use Rattle.word.specs.declared.Single.{Single}
+use Rattle.memory.specs.Memory.{Memory, memoryOf}
 use Rattle.transfer.specs.Single.{offsetOf, loadedValue, storedTo}
 
 -- R0 at the address in R1: a byte or a word
@@ -22,16 +23,16 @@ transfer byte load = record {
   offset = Constant 0 0;
 }
 
-abbrev pub bytes : List ℕ
-bytes = 0x11 ∷ 0x22 ∷ 0x33 ∷ 0x44 ∷ 0x55 ∷ 0x66 ∷ 0x77 ∷ 0x88 ∷ []
+abbrev pub memory : Memory
+memory = memoryOf (record { size = 8 }) (0x11 ∷ 0x22 ∷ 0x33 ∷ 0x44 ∷ 0x55 ∷ 0x66 ∷ 0x77 ∷ 0x88 ∷ [])
 
 -- loaded from 0 to 4
 abbrev pub loads : Bool → List ℕ
-loads byte = map (loadedValue (transfer byte true) bytes) (0 ∷ 1 ∷ 2 ∷ 3 ∷ 4 ∷ [])
+loads byte = map (loadedValue (transfer byte true) memory) (0 ∷ 1 ∷ 2 ∷ 3 ∷ 4 ∷ [])
 
 -- the bytes after a store of AABBCCDD
 abbrev pub stored : Bool → ℕ → List ℕ
-stored byte address = storedTo (transfer byte false) bytes address 0xAABBCCDD
+stored byte address = storedTo (transfer byte false) memory address 0xAABBCCDD .bytes
 
 -- a value in R2
 abbrev pub registers : ℕ → List ℕ

@@ -1,20 +1,23 @@
-// Block transfers (paper 01, "Block"). a12 is A+12, with which R15 is stored.
+// Block transfers (paper 01, "Block"). Where `a12` is lent, it is A+12, as which R15 is stored.
 ghost use mathlib.Core.Path.{_≡_};
 ghost use Prim.Native.Nat.{_+_, _%_, _^_};
 ghost use lib.ListN.{take};
-ghost use Rattle.memory.specs.Memory.{wordBase};
+ghost use Rattle.memory.specs.Bytes.{wordBase};
+ghost use Rattle.memory.specs.Memory.{memoryOf};
 ghost use Rattle.registers.specs.Registers.{out};
 ghost use Rattle.transfer.specs.Block.{named, baseOf, changedBase, above, lowestAddress, withBase, next, loads, stores, storesAll};
 use crate::named;
 use crate::single;
 use memory;
+use memory::Board;
+use memory::bytes::word_base;
 use registers;
 use registers::Goes;
 use registers::Turn;
 use word::Block;
 
 // The address of the next word.
-fn next(address: u32) -> u32
+pub fn next(address: u32) -> u32
     ensures { λ r. ⌜ r ≡ next address ⌝ }
 {
     std::num::wrapping_add_u32(address, 4)
@@ -49,7 +52,7 @@ fn above(u: bool, p: bool) -> u32
 fn begin(low: u32, by: u32) -> u32
     ensures { λ r. ⌜ r ≡ wordBase ((low + by) % 2 ^ 32) ⌝ }
 {
-    std::num::wrapping_add_u32(low, by) / 4 * 4
+    word_base(std::num::wrapping_add_u32(low, by))
 }
 
 // Where the lowest register goes, low two bits cleared.
@@ -74,8 +77,15 @@ pub fn write_base(i: Block, registers: &mut [u32; 15], base: u32)
 }
 
 // The named registers loaded, lowest first. The last may be R15, which goes to the counter.
-pub fn load(list: u32, registers: &mut [u32; 15], flags: u32, address: u32, memory: &[u8]) -> Turn
-    ensures { λ r. ⌜ out (now (registers .exit)) (r .flags) (r .goes) ≡ loads (named list) (now (registers .entry)) flags address (now (memory .entry)) ⌝ }
+pub fn load(
+    list: u32,
+    registers: &mut [u32; 15],
+    flags: u32,
+    address: u32,
+    memory: &[u8],
+    board: Board,
+) -> Turn
+    ensures { λ r. ⌜ out (now (registers .exit)) (r .flags) (r .goes) ≡ loads (named list) (now (registers .entry)) flags address (memoryOf board (now (memory .entry))) ⌝ }
 {
     let mut left = list;
     let mut n = named::count(list);
@@ -84,7 +94,7 @@ pub fn load(list: u32, registers: &mut [u32; 15], flags: u32, address: u32, memo
         registers::put(
             registers,
             named::lowest(left),
-            memory::read_word(memory, at),
+            memory::read_word(memory, board, at),
         );
         left = named::rest(left);
         at = next(at);
@@ -100,7 +110,7 @@ pub fn load(list: u32, registers: &mut [u32; 15], flags: u32, address: u32, memo
         registers,
         flags,
         named::lowest(left),
-        memory::read_word(memory, at),
+        memory::read_word(memory, board, at),
     )
 }
 
@@ -112,8 +122,9 @@ pub fn store(
     a12: u32,
     address: u32,
     memory: &mut [u8],
+    board: Board,
 )
-    ensures { λ _. ⌜ now (memory .exit) ≡ stores (named list) (now (registers .entry)) flags a12 address (now (memory .entry)) ⌝ }
+    ensures { λ _. ⌜ memoryOf board (now (memory .exit)) ≡ stores (named list) (now (registers .entry)) flags a12 address (memoryOf board (now (memory .entry))) ⌝ }
 {
     let mut left = list;
     let mut n = named::count(list);
@@ -121,6 +132,7 @@ pub fn store(
     while 0 < n {
         memory::write_word(
             memory,
+            board,
             at,
             single::stored_value(registers, named::lowest(left), flags, a12),
         );
@@ -138,12 +150,14 @@ fn store_lowest(
     a12: u32,
     address: u32,
     memory: &mut [u8],
+    board: Board,
 )
-    ensures { λ _. ⌜ now (memory .exit) ≡ stores (take 1 (named list)) (now (registers .entry)) flags a12 address (now (memory .entry)) ⌝ }
+    ensures { λ _. ⌜ memoryOf board (now (memory .exit)) ≡ stores (take 1 (named list)) (now (registers .entry)) flags a12 address (memoryOf board (now (memory .entry))) ⌝ }
 {
     if 0 < named::count(list) {
         memory::write_word(
             memory,
+            board,
             address,
             single::stored_value(registers, named::lowest(list), flags, a12),
         );
@@ -151,16 +165,23 @@ fn store_lowest(
 }
 
 // A whole store: the lowest register from the old registers, the others after the base is written.
-pub fn store_all(i: Block, registers: &mut [u32; 15], flags: u32, a12: u32, memory: &mut [u8])
+pub fn store_all(
+    i: Block,
+    registers: &mut [u32; 15],
+    flags: u32,
+    a12: u32,
+    memory: &mut [u8],
+    board: Board,
+)
     ensures { λ _. ⌜ now (registers .exit) ≡ withBase i (now (registers .entry)) (changedBase i (now (registers .entry))) ⌝ }
-    ensures { λ _. ⌜ now (memory .exit) ≡ storesAll (named (i .list)) (now (registers .entry)) (withBase i (now (registers .entry)) (changedBase i (now (registers .entry)))) flags a12 (lowestAddress i (now (registers .entry))) (now (memory .entry)) ⌝ }
+    ensures { λ _. ⌜ memoryOf board (now (memory .exit)) ≡ storesAll (named (i .list)) (now (registers .entry)) (withBase i (now (registers .entry)) (changedBase i (now (registers .entry)))) flags a12 (lowestAddress i (now (registers .entry))) (memoryOf board (now (memory .entry))) ⌝ }
 {
     let list = i.list;
     let address = lowest_address(i, registers);
     let base = changed_base(i, registers);
-    store_lowest(list, registers, flags, a12, address, memory);
+    store_lowest(list, registers, flags, a12, address, memory, board);
     write_base(i, registers, base);
     let others = named::rest(list);
     let after = next(address);
-    store(others, registers, flags, a12, after, memory);
+    store(others, registers, flags, a12, after, memory, board);
 }

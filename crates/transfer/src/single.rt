@@ -1,10 +1,12 @@
 // Single transfers (paper 01, "Single"). pc is what R15 reads as, A+8.
 ghost use mathlib.Core.Path.{_≡_};
+ghost use Rattle.memory.specs.Memory.{memoryOf};
 ghost use Rattle.transfer.specs.Single.{offsetOf, moved, changedBase, addressOf, writesBase, withBase, loadedValue, storedValue, storedTo};
 use datapath::alu;
 use datapath::counter;
 use datapath::shifter;
 use memory;
+use memory::Board;
 use registers;
 use word::Operand;
 use word::Single;
@@ -75,13 +77,13 @@ pub fn write_base(i: Single, registers: &mut [u32; 15], base: u32)
 }
 
 // A word comes rotated by its place in the word of memory.
-pub fn loaded_value(i: Single, memory: &[u8], address: u32) -> u32
-    ensures { λ r. ⌜ r ≡ loadedValue i (now (memory .entry)) address ⌝ }
+pub fn loaded_value(i: Single, memory: &[u8], board: Board, address: u32) -> u32
+    ensures { λ r. ⌜ r ≡ loadedValue i (memoryOf board (now (memory .entry))) address ⌝ }
 {
     if i.b {
-        memory::read_byte(memory, address)
+        memory::read_byte(memory, board, address)
     } else {
-        shifter::rotate(memory::read_word(memory, address), 8 * (address % 4))
+        shifter::rotate(memory::read_word(memory, board, address), 8 * (address % 4))
     }
 }
 
@@ -92,12 +94,12 @@ pub fn stored_value(registers: &[u32; 15], n: u32, flags: u32, a12: u32) -> u32
     registers::register(registers, n, counter::r15_word(flags, a12))
 }
 
-pub fn store(i: Single, memory: &mut [u8], address: u32, value: u32)
-    ensures { λ _. ⌜ now (memory .exit) ≡ storedTo i (now (memory .entry)) address value ⌝ }
+pub fn store(i: Single, memory: &mut [u8], board: Board, address: u32, value: u32)
+    ensures { λ _. ⌜ memoryOf board (now (memory .exit)) ≡ storedTo i (memoryOf board (now (memory .entry))) address value ⌝ }
 {
     if i.b {
-        memory::write_byte(memory, address, value);
+        memory::write_byte(memory, board, address, value);
     } else {
-        memory::write_word(memory, address, value);
+        memory::write_word(memory, board, address, value);
     }
 }

@@ -1,120 +1,51 @@
--- The layout, proved: a record's fields, put by their widths, and its table, by bits, say the same of a word.
+-- The layout, proved: a word fits the table of what it reads as, and reads as what its table says.
 -- Assumes nothing.
 use mathlib.Core.Path.{_≡_, refl, sym, ap, _∙_}
-use mathlib.Core.Bool.{Bool, true, false, not}
-use mathlib.Core.List.{[]}
+use mathlib.Core.Bool.{Bool, true, false}
 use mathlib.Core.Logic.{_⊎_, inl, inr}
-use Prim.Native.Nat.{ℕ, _+_, _*_, _^_, _<_}
+use Prim.Native.Nat.{ℕ, zero, suc, _+_, _*_, _^_, _<_}
+use native.Mathlib.Nat.{div-one, mod-eq-of-lt}
 use native.Mathlib.Omega.{arith}
 use lib.Pow.{shr-shr}
-use Rattle.bits.specs.Bits.{field, num}
-use Rattle.bits.proofs.Fields.{field-lt}
-use Rattle.word.specs.Fields.{packed, _⟨_⟩_}
-use Rattle.word.specs.Reader.{readOf}
-use Rattle.word.specs.Writer.{written, isOther, writeOf, operandFields, processingFields, singleFields, blockFields, branchFields, processingClass, singleClass, singleHas}
-use Rattle.word.specs.Layout.{Layout, isConstant, isOffset, operandTable, processingTable, singleTable, tableOf, Has, Fits, once}
+use Rattle.bits.specs.Bits.{field, bit, num}
+use Rattle.bits.proofs.Fields.{field-lt, num-bit, bit-num}
+use Rattle.word.specs.Reader.{readOf, classed, isOther}
+use Rattle.word.specs.Layout.{Layout, tableOf, Has, Fits, once}
 use Rattle.word.specs.declared.Operand.{Operand}
 use Rattle.word.specs.declared.Operand.the-variants.{Constant, ShiftByAmount, ShiftByRegister}
+use Rattle.word.specs.declared.Processing.{Processing}
+use Rattle.word.specs.declared.Single.{Single}
 use Rattle.word.specs.declared.Instruction.{Instruction}
-use Rattle.word.specs.declared.Written.the-variants.{Word}
-use Rattle.word.proofs.Fields.{unpacks-all, Reads}
-use Rattle.word.proofs.Theorem.{field-whole, written-back, allowed, processing-reads, single-reads, block-reads, branch-reads, whole-processing, whole-single, accepted}
 
--- ---- bits 27..25 are bits 27..26 and I, and the offset kinds are those of the writer
-
-class-is : (w : ℕ) → field w 25 3 ≡ field w 26 2 * 2 + field w 25 1
+pub field-whole : (w : ℕ) → w < 2 ^ 32 → field w 0 32 ≡ w
 unfolding field
-class-is w = omega (arith, shr-shr w 25 1)
+field-whole w h = rw (div-one w) (mod-eq-of-lt h)
 
-apart : (w a : ℕ) (b : Bool) → field w 25 3 ≡ a * 2 + num b → (field w 26 2 ≡ a) × (field w 25 1 ≡ num b)
-apart w a true e = let l = field-lt w 25 1 in (omega (arith, class-is w), omega (arith, class-is w))
-apart w a false e = let l = field-lt w 25 1 in (omega (arith, class-is w), omega (arith, class-is w))
+-- bits 27..25 are bits 27..26 and I
+pub class-is : (w : ℕ) → (field w 25 3 ≡ field w 26 2 * 2 + field w 25 1) × (field w 25 1 < 2)
+unfolding field
+class-is w = (omega (arith, shr-shr w 25 1), field-lt w 25 1)
 
-joined : (w a : ℕ) (b : Bool) → field w 26 2 ≡ a → field w 25 1 ≡ num b → field w 25 3 ≡ a * 2 + num b
-joined w a b e f = rw (class-is, e, f) refl
+-- a record with its operand written out, for a proof that goes by the operand's kind
+abbrev pub processingWith : Processing → Operand → Instruction
+processingWith i o = Instruction.Processing (record { condition = i .condition; operation = i .operation; s = i .s; rn = i .rn; rd = i .rd; operand = o })
 
-processing-i : (o : Operand) → processingClass o ≡ 0b00 * 2 + num (isConstant o)
-processing-i (Constant r value) = refl
-processing-i (ShiftByAmount rm shift amount) = refl
-processing-i (ShiftByRegister rm shift rs) = refl
-
-single-i : (o : Operand) → singleClass o ≡ 0b01 * 2 + num (not (isConstant o))
-single-i (Constant r value) = refl
-single-i (ShiftByAmount rm shift amount) = refl
-single-i (ShiftByRegister rm shift rs) = refl
-
-kinds : (o : Operand) → singleHas o ≡ isOffset o
-kinds (Constant r value) = refl
-kinds (ShiftByAmount rm shift amount) = refl
-kinds (ShiftByRegister rm shift rs) = refl
-
--- ---- bits 11..0, in the order of the fields and in that of the table
-
-module _ (w : ℕ) where
-  laid : (o : Operand) → Reads w 12 (operandFields o) → Has w (operandTable o)
-  laid (Constant r value) f = f
-  laid (ShiftByAmount rm shift amount) f = (f .1 .1 .1 .0, (f .1 .0, (f .1 .1 .0, (f .0, tt))))
-  laid (ShiftByRegister rm shift rs) f = (f .1 .1 .1 .1 .0, (f .1 .1 .0, (f .1 .1 .1 .0, (f .0, (f .1 .0, tt)))))
-
-  in-order : (o : Operand) → Has w (operandTable o) → Reads w 12 (operandFields o)
-  in-order (Constant r value) t = t
-  in-order (ShiftByAmount rm shift amount) t = (t .1 .1 .1 .0, (t .1 .0, (t .1 .1 .0, (t .0, tt))))
-  in-order (ShiftByRegister rm shift rs) t = (t .1 .1 .1 .0, (t .1 .1 .1 .1 .0, (t .1 .0, (t .1 .1 .0, (t .0, tt)))))
-
--- ---- the word of a record fits its table
-
-fits : (i : Instruction) (w : ℕ) → written i ≡ Word w → Fits w i
-unfolding written
-fits (Instruction.Processing i) w e =
-    let f = unpacks-all (processingFields i) w (whole-processing i) e .1 in
-    let c = apart w 0b00 (isConstant (i .operand)) (f .1 .0 ∙ processing-i (i .operand)) in
-    let g = f .1 .1 in
-    (refl, (f .0, (c .0, (c .1, (g .0, (g .1 .0, (g .1 .1 .0, (g .1 .1 .1 .0, laid w (i .operand) (g .1 .1 .1 .1)))))))))
-fits (Instruction.Single i) w e =
-    let a = allowed (singleHas (i .offset)) (packed (Word 0) (singleFields i)) w e in
-    let f = unpacks-all (singleFields i) w (whole-single i) (a .1) .1 in
-    let c = apart w 0b01 (not (isConstant (i .offset))) (f .1 .0 ∙ single-i (i .offset)) in
-    let g = f .1 .1 in
-    let h = g .1 .1 .1 .1 .1 in
-    (sym (kinds (i .offset)) ∙ a .0, (f .0, (c .0, (c .1, (g .0, (g .1 .0, (g .1 .1 .0, (g .1 .1 .1 .0, (g .1 .1 .1 .1 .0, (h .0, (h .1 .0, laid w (i .offset) (h .1 .1))))))))))))
-fits (Instruction.Block i) w e = (refl, unpacks-all (blockFields i) w tt e .1)
-fits (Instruction.Branch i) w e = (refl, unpacks-all (branchFields i) w tt e .1)
-fits (Instruction.Other v) w e =
-    (refl, unpacks-all (v ⟨ 32 ⟩ []) w tt (allowed (isOther (readOf v)) (packed (Word 0) (v ⟨ 32 ⟩ [])) w e .1) .1)
-
--- ---- a word reads as the record whose table it fits
-
-reads-as : (w : ℕ) → w < 2 ^ 32 → (i : Instruction) → Fits w i → (readOf w ≡ i) ⊎ (i ≡ Instruction.Other w)
-reads-as w l (Instruction.Processing i) h =
-    let t = h .1 in
-    let g = t .1 .1 .1 in
-    let c = joined w 0b00 (isConstant (i .operand)) (t .1 .0) (t .1 .1 .0) ∙ sym (processing-i (i .operand)) in
-    inl (processing-reads w (i .condition) (i .operation) (i .s) (i .rn) (i .rd) (i .operand)
-    (t .0, (c, (g .0, (g .1 .0, (g .1 .1 .0, (g .1 .1 .1 .0, in-order w (i .operand) (g .1 .1 .1 .1))))))))
-reads-as w l (Instruction.Single i) h =
-    let t = h .1 in
-    let g = t .1 .1 .1 in
-    let k = g .1 .1 .1 .1 .1 in
-    let c = joined w 0b01 (not (isConstant (i .offset))) (t .1 .0) (t .1 .1 .0) ∙ sym (single-i (i .offset)) in
-    inl (single-reads w (i .condition) (i .p) (i .u) (i .b) (i .w) (i .l) (i .rn) (i .rd) (i .offset) (kinds (i .offset) ∙ h .0)
-    (t .0, (c, (g .0, (g .1 .0, (g .1 .1 .0, (g .1 .1 .1 .0, (g .1 .1 .1 .1 .0, (k .0, (k .1 .0, in-order w (i .offset) (k .1 .1)))))))))))
-reads-as w l (Instruction.Block i) h =
-    inl (block-reads w (i .condition) (i .p) (i .u) (i .s) (i .w) (i .l) (i .rn) (i .list) (h .1))
-reads-as w l (Instruction.Branch i) h = inl (branch-reads w (i .condition) (i .link) (i .offset) (h .1))
-reads-as w l (Instruction.Other v) h = inr (ap Instruction.Other (sym (h .1 .0) ∙ field-whole w l))
+abbrev pub singleWith : Single → Operand → Instruction
+singleWith i o =
+    Instruction.Single (record { condition = i .condition; p = i .p; u = i .u; b = i .b; w = i .w; l = i .l; rn = i .rn; rd = i .rd; offset = o })
 
 -- ---- a table has each bit once
 
 table-whole : (i : Instruction) → once 32 (tableOf i) ≡ true
 table-whole (Instruction.Processing i) = go (i .operand)
   where
-    go : (o : Operand) → once 32 (processingTable (record { condition = i .condition; operation = i .operation; s = i .s; rn = i .rn; rd = i .rd; operand = o })) ≡ true
+    go : (o : Operand) → once 32 (tableOf (processingWith i o)) ≡ true
     go (Constant r value) = refl
     go (ShiftByAmount rm shift amount) = refl
     go (ShiftByRegister rm shift rs) = refl
 table-whole (Instruction.Single i) = go (i .offset)
   where
-    go : (o : Operand) → once 32 (singleTable (record { condition = i .condition; p = i .p; u = i .u; b = i .b; w = i .w; l = i .l; rn = i .rn; rd = i .rd; offset = o })) ≡ true
+    go : (o : Operand) → once 32 (tableOf (singleWith i o)) ≡ true
     go (Constant r value) = refl
     go (ShiftByAmount rm shift amount) = refl
     go (ShiftByRegister rm shift rs) = refl
@@ -122,10 +53,71 @@ table-whole (Instruction.Block i) = refl
 table-whole (Instruction.Branch i) = refl
 table-whole (Instruction.Other word) = refl
 
+-- ---- a word fits the table of the record that it reads as
+
+module _ (w : ℕ) (h : w < 2 ^ 32) where
+  itself : Fits w (Instruction.Other w)
+  itself = (refl, (field-whole w h, tt))
+
+  fits : (k : ℕ) (b4 b7 : Bool) → field w 25 3 ≡ k → field w 4 1 ≡ num b4 → field w 7 1 ≡ num b7 → Fits w (classed w k b4 b7)
+  fits zero true true e f g = itself
+  fits zero true false e f g = (refl, simp num-bit (omega (arith, class-is w)))
+  fits zero false b7 e f g = (refl, simp num-bit (omega (arith, class-is w)))
+  fits (suc zero) b4 b7 e f g = (refl, simp num-bit (omega (arith, class-is w)))
+  fits (suc (suc zero)) b4 b7 e f g = (refl, simp num-bit (omega (arith, class-is w)))
+  fits (suc (suc (suc zero))) true b7 e f g = itself
+  fits (suc (suc (suc zero))) false b7 e f g = (refl, simp num-bit (omega (arith, class-is w)))
+  fits (suc (suc (suc (suc zero)))) b4 b7 e f g = (refl, simp num-bit (omega arith))
+  fits (suc (suc (suc (suc (suc zero))))) b4 b7 e f g = (refl, simp num-bit (omega arith))
+  fits (suc (suc (suc (suc (suc (suc zero)))))) b4 b7 e f g = itself
+  fits (suc (suc (suc (suc (suc (suc (suc zero))))))) b4 b7 e f g = itself
+  fits (suc (suc (suc (suc (suc (suc (suc (suc k)))))))) b4 b7 e f g = absurd (omega (arith, field-lt w 25 3))
+
+  reads-fit : Fits w (readOf w)
+  unfolding readOf
+  reads-fit = fits (field w 25 3) (bit w 4) (bit w 7) refl (sym (num-bit w 4)) (sym (num-bit w 7))
+
+  -- ---- a word reads as the record whose table it fits
+
+  own-word : (v : ℕ) → field w 0 32 ≡ v → Instruction.Other v ≡ Instruction.Other w
+  own-word v e = ap Instruction.Other (sym e ∙ field-whole w h)
+
+  reads-as : (i : Instruction) → Fits w i → (readOf w ≡ i) ⊎ (i ≡ Instruction.Other w)
+  unfolding readOf bit
+  reads-as (Instruction.Processing i) t = inl (go (i .operand) (t .1))
+    where
+      go : (o : Operand) → Has w (tableOf (processingWith i o)) → readOf w ≡ processingWith i o
+      go (Constant r value) t = let c : field w 25 3 ≡ 1 = omega (arith, class-is w) in cc (bit-num (i .s))
+      go (ShiftByAmount rm shift amount) t = let c : field w 25 3 ≡ 0 = omega (arith, class-is w) in cc (bit-num (i .s))
+      go (ShiftByRegister rm shift rs) t = let c : field w 25 3 ≡ 0 = omega (arith, class-is w) in cc (bit-num (i .s))
+  reads-as (Instruction.Single i) t = inl (go (i .offset) t)
+    where
+      go : (o : Operand) → Fits w (singleWith i o) → readOf w ≡ singleWith i o
+      go (Constant r value) t =
+          let c : field w 25 3 ≡ 2 = omega (arith, class-is w) in
+          cc (bit-num (i .p), bit-num (i .u), bit-num (i .b), bit-num (i .w), bit-num (i .l))
+      go (ShiftByAmount rm shift amount) t =
+          let c : field w 25 3 ≡ 3 = omega (arith, class-is w) in
+          cc (bit-num (i .p), bit-num (i .u), bit-num (i .b), bit-num (i .w), bit-num (i .l))
+      go (ShiftByRegister rm shift rs) t = cc
+  reads-as (Instruction.Block i) t =
+      let e : readOf w ≡ Instruction.Block (record { condition = i .condition; p = i .p; u = i .u; s = i .s; w = i .w; l = i .l; rn = i .rn; list = i .list }) =
+      cc (bit-num (i .p), bit-num (i .u), bit-num (i .s), bit-num (i .w), bit-num (i .l)) in inl e
+  reads-as (Instruction.Branch i) t =
+      let e : readOf w ≡ Instruction.Branch (record { condition = i .condition; link = i .link; offset = i .offset }) = cc (bit-num (i .link)) in inl e
+  reads-as (Instruction.Other v) t = inr (own-word v (t .1 .0))
+
+  other-is : (i : Instruction) → Fits w i → isOther i ≡ true → i ≡ Instruction.Other w
+  other-is (Instruction.Processing i) t e = cc
+  other-is (Instruction.Single i) t e = cc
+  other-is (Instruction.Block i) t e = cc
+  other-is (Instruction.Branch i) t e = cc
+  other-is (Instruction.Other v) t e = own-word v (t .1 .0)
+
 pub layout : Layout
 layout = record {
   whole = table-whole;
-  reads = λ w l. fits (readOf w) w (written-back w l);
-  writes = λ i e. fits i (writeOf i .word) (accepted (written i) e);
+  reads = reads-fit;
   only = reads-as;
+  other = λ w h. (other-is w h (readOf w) (reads-fit w h), ap isOther);
 }

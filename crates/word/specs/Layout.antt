@@ -1,14 +1,13 @@
--- Where each field stands in a word (paper 01, "Words and records"): a table for each class, row by row as the paper has them, and the law that reader and
--- writer are these tables.
+-- Where each field stands in a word (paper 01, "Words and records"): a table for each class, row by row as the paper has them, and the law that the
+-- reader is these tables.
 use Prim.Native.Nat.{ℕ, zero, suc, _+_, _-_, _^_, _<_}
 use mathlib.Core.Path.{_≡_}
 use mathlib.Core.Bool.{Bool, true, false, not, _&&_}
 use mathlib.Core.List.{List, [], _∷_}
-use mathlib.Core.Logic.{_⊎_}
+use mathlib.Core.Logic.{_⊎_, _↔_}
 use lib.Dec.{leb, eqb}
 use Rattle.bits.specs.Bits.{field, num}
-use Rattle.word.specs.Reader.{readOf}
-use Rattle.word.specs.Writer.{writeOf}
+use Rattle.word.specs.Reader.{readOf, isOther}
 use Rattle.word.specs.declared.Operand.{Operand}
 use Rattle.word.specs.declared.Operand.the-variants.{Constant, ShiftByAmount, ShiftByRegister}
 use Rattle.word.specs.declared.Processing.{Processing}
@@ -113,7 +112,7 @@ pub record Layout : Type 0 where
   pub whole : (i : Instruction) → once 32 (tableOf i) ≡ true
   -- every word fits the table of the record that it reads as
   pub reads : (w : ℕ) → w < 2 ^ 32 → Fits w (readOf w)
-  -- every accepted record is written as a word that fits its table
-  pub writes : (i : Instruction) → writeOf i .number ≡ 0 → Fits (writeOf i .word) i
   -- a word reads as the record whose table it fits, unless that record is its Other: only the rest is Other
   pub only : (w : ℕ) → w < 2 ^ 32 → (i : Instruction) → Fits w i → (readOf w ≡ i) ⊎ (i ≡ Instruction.Other w)
+  -- a word is Other exactly where it reads as itself
+  pub other : (w : ℕ) → w < 2 ^ 32 → (isOther (readOf w) ≡ true) ↔ (readOf w ≡ Instruction.Other w)

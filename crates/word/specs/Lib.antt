@@ -1,5 +1,2 @@
-pub mod Fields
 pub mod Reader
-pub mod Writer
-pub mod Term2
 pub mod Layout

@@ -1,6 +1,6 @@
 -- How a word reads (paper 01, "Words and records").
 use Prim.Native.Nat.{ℕ}
-use mathlib.Core.Bool.{Bool}
+use mathlib.Core.Bool.{Bool, true, false}
 use lib.Dec.{eqb}
 use Rattle.bits.specs.Choice.{pick}
 use Rattle.bits.specs.Bits.{field, bit}
@@ -61,12 +61,16 @@ blockOf w = record {
 abbrev pub branchOf : ℕ → Branch
 branchOf w = record { condition = field w 28 4; link = bit w 24; offset = field w 0 24 }
 
+-- a word of the extension space: bits 27..25 = 000, bits 7 and 4 set. Multiply and swap stand there, and this core has neither
+abbrev pub extendedOf : ℕ → Instruction
+extendedOf w = Instruction.Other w
+
 -- a word by its bits 27..25, 4 and 7. Bit 25 is I: a processing operand is a constant where it is set, a single offset where it is clear
 abbrev pub classed : ℕ → ℕ → Bool → Bool → Instruction
 classed w class bit4 bit7 =
     pick (eqb class 0)
     (pick bit4
-    (pick bit7 (Instruction.Other w) (Instruction.Processing (processingOf w (byRegisterOf w))))
+    (pick bit7 (extendedOf w) (Instruction.Processing (processingOf w (byRegisterOf w))))
     (Instruction.Processing (processingOf w (byAmountOf w))))
     (pick (eqb class 1) (Instruction.Processing (processingOf w (constantOf w)))
     (pick (eqb class 2) (Instruction.Single (singleOf w (constantOf w)))
@@ -77,3 +81,10 @@ classed w class bit4 bit7 =
 
 unfoldable pub readOf : ℕ → Instruction
 readOf w = classed w (field w 25 3) (bit w 4) (bit w 7)
+
+abbrev pub isOther : Instruction → Bool
+isOther (Instruction.Processing i) = false
+isOther (Instruction.Single i) = false
+isOther (Instruction.Block i) = false
+isOther (Instruction.Branch i) = false
+isOther (Instruction.Other word) = true

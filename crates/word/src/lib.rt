@@ -1,6 +1,5 @@
-// Words and records: every 32-bit word as a record of its fields, and a record as its word.
+// Words and records: every 32-bit word as a record of its fields.
 pub mod reader;
-pub mod writer;
 
 // The second operand of a data processing instruction, and the offset of a single transfer.
 pub enum Operand {
@@ -56,10 +55,4 @@ pub enum Instruction {
     Block(Block),
     Branch(Branch),
     Other(u32),
-}
-
-// A writer's answer: the word, or a refusal, which is number 5.
-pub enum Written {
-    Word(u32),
-    Refused,
 }

@@ -1,7 +1,7 @@
 // The reader. An engine that has dispatched on bits 27..25 calls the reader of the class alone.
 ghost use mathlib.Core.Path.{_≡_};
 ghost use Rattle.bits.specs.Bits.{field};
-ghost use Rattle.word.specs.Reader.{constantOf, byAmountOf, byRegisterOf, processingOf, singleOf, blockOf, branchOf, classed, readOf};
+ghost use Rattle.word.specs.Reader.{constantOf, byAmountOf, byRegisterOf, processingOf, singleOf, blockOf, branchOf, extendedOf, classed, readOf, isOther};
 use crate::Block;
 use crate::Branch;
 use crate::Instruction;
@@ -31,7 +31,7 @@ fn classed(word: u32, class: u32, bit4: bool, bit7: bool) -> Instruction
         0 => {
             if bit4 {
                 if bit7 {
-                    Instruction::Other(word)
+                    extended(word)
                 } else {
                     Instruction::Processing(processing(word, by_register(word)))
                 }
@@ -52,6 +52,13 @@ fn classed(word: u32, class: u32, bit4: bool, bit7: bool) -> Instruction
         5 => Instruction::Branch(branch(word)),
         _ => Instruction::Other(word),
     }
+}
+
+// A word of the extension space: bits 27..25 = 000, bits 7 and 4 set. Multiply and swap stand there, and this core has neither.
+pub fn extended(word: u32) -> Instruction
+    ensures { λ r. ⌜ r ≡ extendedOf word ⌝ }
+{
+    Instruction::Other(word)
 }
 
 pub fn constant(word: u32) -> Operand
@@ -134,5 +141,17 @@ pub fn branch(word: u32) -> Branch
         condition: field(word, 28, 4),
         link: bit(word, 24),
         offset: field(word, 0, 24),
+    }
+}
+
+pub fn is_other(i: Instruction) -> bool
+    ensures { λ r. ⌜ r ≡ isOther i ⌝ }
+{
+    match i {
+        Instruction::Processing(_) => false,
+        Instruction::Single(_) => false,
+        Instruction::Block(_) => false,
+        Instruction::Branch(_) => false,
+        Instruction::Other(_) => true,
     }
 }

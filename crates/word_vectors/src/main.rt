@@ -1,34 +1,21 @@
 // Reads words from standard input and prints for each its record and the word that the record is written as.
-mod line;
-mod print;
 mod record;
 
-use libc::STDIN_FILENO;
-use line::Line;
+use tokens::token;
 
-// A proved loop has to end, and nothing says that the input does: the turns are counted down from a number that no run uses up.
 fn main() {
-    let mut turns = u64::MAX;
-    while turns > 0 && next() {
-        turns -= 1;
+    let mut left = tokens::CASES;
+    while left > 0 && case() {
+        left -= 1;
     }
 }
 
-// One line. Answers whether to go on.
-fn next() -> bool {
-    let mut buffer = [0u8; 9];
-    let n = io::read_full(STDIN_FILENO, &mut buffer);
-    if n == 0 {
+// Answers whether there was a word.
+fn case() -> bool {
+    let mut word = [0u32; 1];
+    if !token::read(&mut word) {
         return false;
     }
-    match line::parse(&buffer[..n]) {
-        Line::Word(word) => {
-            record::report(word);
-            true
-        }
-        Line::Bad => {
-            print::text(b"bad line\n");
-            false
-        }
-    }
+    record::report(word[0]);
+    true
 }

@@ -1,21 +1,22 @@
 // A word's record, field by field.
-use crate::print::field;
-use crate::print::flag;
-use crate::print::number;
-use crate::print::text;
+use tokens::print::bytes;
+use tokens::print::field;
 use word::Block;
 use word::Branch;
 use word::Instruction;
 use word::Operand;
 use word::Processing;
 use word::Single;
-use word::Written;
+use writer::Written;
 
 pub fn report(word: u32) {
     let i = word::reader::read(word);
     instruction(i);
-    answer(word::writer::write(i));
-    text(b"\n");
+    answer(writer::write(i));
+    bytes(
+        b"
+",
+    );
 }
 
 fn instruction(i: Instruction) {
@@ -90,13 +91,22 @@ fn operand(o: Operand) {
 // A refusal is number 5 and word 0.
 fn answer(written: Written) {
     match written {
-        Written::Word(word) => {
-            number(b" number=", 0);
-            field(b" word=", word, 8);
-        }
-        Written::Refused => {
-            number(b" number=", 5);
-            field(b" word=", 0, 8);
-        }
+        Written::Word(word) => ending(0, word),
+        Written::Refused => ending(5, 0),
     }
+}
+
+fn ending(answer: u32, word: u32) {
+    number(b" number=", answer);
+    field(b" word=", word, 8);
+}
+
+// Without leading zeros: a digit for each four bits begun, and one for 0.
+fn number(name: &[u8], value: u32) {
+    let bits = 32 - u32::leading_zeros(value | 1) % 32;
+    field(name, value, ((bits + 3) / 4) as usize);
+}
+
+fn flag(name: &[u8], value: bool) {
+    field(name, value as u32, 1);
 }

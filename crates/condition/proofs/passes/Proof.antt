@@ -1,24 +1,11 @@
-use Rattle.bits.specs.Bits.{field, bit}
-use Rattle.condition.proofs.Table.{ruled}
 use borrow.Author.Needs.{needs}
+use Rattle.condition.specs.Condition.{passes}
 use Rattle.condition.proofs.passes.Statement.{statement}
 use Rattle.condition.proofs.passes.Tie as tie
 
 returns : tie.Need-returns
-unfolding bit field
-returns c =
-    ruled (c .conditions .result) (c .conditions .ensures) (c .before .args .condition)
-    (c .before .args .flags)
-    (search needs)
+unfolding passes
+returns c = rw (c .if1 .taken)
 
 pub passes-spec : {M : Type 1} → statement M
-passes-spec =
-    tie.close
-    (tie.spec
-    (λ c κs. search needs)
-    (λ c. search needs)
-    (λ c. search needs)
-    (λ c. search needs)
-    (λ c. search needs)
-    (λ c. search needs)
-    returns)
+passes-spec = tie.close (tie.spec returns (λ c κs. search needs) (λ c. search needs))

@@ -4,8 +4,8 @@ use borrow.Author.Needs.{needs}
 use mathlib.Core.List.{_++_}
 use Rattle.text.specs.Output.{output, put}
 use Rattle.text.proofs.Put.{put-append}
-use Rattle.pipeline.specs.Machine.{machine}
-use Rattle.pipeline.specs.Run.{ran}
+use Rattle.cycle.specs.Machine.{machine}
+use Rattle.runs.specs.Run.{ran}
 use Rattle.report.specs.Report.{answerLine, coreLines, begun}
 use Rattle.report.proofs.Room.{told}
 use Rattle.report.proofs.Told.{refused, accepted}

@@ -11,7 +11,8 @@ use Rattle.text.proofs.Digits.{hex-last}
 use Rattle.text.proofs.hex.Reads as hex
 use Rattle.text.proofs.hex.Kinds as hex-kinds
 use Rattle.text.proofs.+hex.Lts-hex as hex-lts
-use Rattle.text.proofs.digit.Reads as digit-reads
+use Rattle.text.proofs.byte.Reads as byte
+use Rattle.text.proofs.digit.byte_of.Reads as digit
 use Rattle.text.proofs.+hex.{statement}
 use Rattle.text.proofs.+hex.Tie.{close}
 
@@ -24,25 +25,27 @@ hex-at t = and 1 hex-kinds.ps (is 1 hex-kinds.ps μ-hex t) hex.Pre
 abbrev hex-below : ℕ → In 1 hex-kinds.ps
 hex-below t = and 1 hex-kinds.ps (falls 1 hex-kinds.ps _<_ μ-hex t) hex.Pre
 
-returns : (t : ℕ) → hex-lts.Need-returns (hex-below t, hex.Post, digit-reads.Asked, digit-reads.Learnt) (hex-at t) hex.Post
+returns : (t : ℕ) → hex-lts.Need-returns (hex-below t, hex.Post, digit.Asked, digit.Learnt, byte.Asked, byte.Learnt) (hex-at t) hex.Post
 unfolding put hexDigits
 returns t c = rw (c .if1 .taken)
 
-positive : (t : ℕ) → hex-lts.Need-sub-hex (hex-below t, hex.Post, digit-reads.Asked, digit-reads.Learnt) (hex-at t) hex.Post
+positive : (t : ℕ) → hex-lts.Need-sub-hex (hex-below t, hex.Post, digit.Asked, digit.Learnt, byte.Asked, byte.Learnt) (hex-at t) hex.Post
 positive t c = omega (arith, c .before .if1 .left)
 
-recurs : (t : ℕ) → hex-lts.Need-hex-requires (hex-below t, hex.Post, digit-reads.Asked, digit-reads.Learnt) (hex-at t) hex.Post
+recurs : (t : ℕ) → hex-lts.Need-hex-requires (hex-below t, hex.Post, digit.Asked, digit.Learnt, byte.Asked, byte.Learnt) (hex-at t) hex.Post
 recurs t c κs = (omega (arith, c .before .before .pre .0, c .before .if1 .left), tt)
 
-returns-2 : (t : ℕ) → hex-lts.Need-returns-2 (hex-below t, hex.Post, digit-reads.Asked, digit-reads.Learnt) (hex-at t) hex.Post
+returns-2 : (t : ℕ) → hex-lts.Need-returns-2 (hex-below t, hex.Post, digit.Asked, digit.Learnt, byte.Asked, byte.Learnt) (hex-at t) hex.Post
 returns-2 t c =
-    rw (hex-last _ _ (c .before .before .before .before .if1 .left), put-snoc, ← c .before .before .hex .ensures)
-    (c .digit .ensures)
+    rw (hex-last _ _ (c .before .before .before .before .before .if1 .left), put-snoc, ← c .before .before .before .hex .ensures, ← c .before .byte-of .ensures)
+    (c .byte .ensures)
 
 pub +hex-spec : {M : Type 1} → statement M
 +hex-spec = close μ-hex λ t. hex-lts.spec (
   hex-below t,
   hex.Post,
-  digit-reads.Asked,
-  digit-reads.Learnt,
-) (hex-at t) hex.Post (returns t) (positive t) (recurs t) (λ c. search needs) (λ c κs. search needs) (returns-2 t)
+  digit.Asked,
+  digit.Learnt,
+  byte.Asked,
+  byte.Learnt,
+) (hex-at t) hex.Post (returns t) (positive t) (recurs t) (λ c κs. search needs) (λ c κs. search needs) (returns-2 t)

@@ -1,24 +1,7 @@
--- `main` is safe and ends: the turns left are the measure. Assumes nothing.
+-- `main` ends: the cases left are the measure. Assumes nothing.
 use borrow.Author.Needs.{needs}
 use Rattle.word_vectors.proofs.main.Statement.{statement}
 use Rattle.word_vectors.proofs.main.Tie as tie
 
-abbrev Inv-loop : tie.InvT-loop
-Inv-loop turns₀ turns = Unit {0}
-
-abbrev μ-loop : tie.MeasureT-loop
-μ-loop turns₀ turns = turns
-
 pub main-spec : {M : Type 1} → statement M
-main-spec =
-    tie.close
-    (tie.spec
-    Inv-loop
-    μ-loop
-    (λ c. search needs)
-    (λ c κs. search needs)
-    (λ c. search needs)
-    (λ c. search needs)
-    (λ c. search needs)
-    (λ c. search needs)
-    (λ c. search needs))
+main-spec = tie.close (tie.spec (λ left₀ left. Unit {0}) (λ left₀ left. left) (λ c. search needs) (λ c κs. search needs) (λ c. search needs) (λ c. search needs) (λ c. search needs) (λ c. search needs) (λ c. search needs))

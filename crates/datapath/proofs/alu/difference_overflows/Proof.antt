@@ -3,9 +3,6 @@ use Rattle.datapath.proofs.Sums.{same-beq}
 use Rattle.datapath.proofs.alu.difference_overflows.Statement.{statement}
 use Rattle.datapath.proofs.alu.difference_overflows.Tie as tie
 
-returns : tie.Need-returns
-returns c = simp (same-beq, c .bit3 .ensures, c .before .bit2 .ensures, c .before .before .bit .ensures)
-
 pub difference-overflows-spec : {M : Type 1} → statement M
 difference-overflows-spec =
     tie.close
@@ -13,4 +10,4 @@ difference-overflows-spec =
     (λ c κs. search needs)
     (λ c κs. search needs)
     (λ c κs. search needs)
-    returns)
+    (λ c. simp (same-beq, c .bit3 .ensures, c .before .bit2 .ensures, c .before .before .bit .ensures)))

@@ -4,11 +4,8 @@ use Rattle.datapath.specs.Alu.{flagsOf}
 use Rattle.datapath.proofs.alu.flags_of.Statement.{statement}
 use Rattle.datapath.proofs.alu.flags_of.Tie as tie
 
-returns : tie.Need-returns
-unfolding flagsOf
-returns c = rw (← c .before .before .before .before .before .bit .ensures) (omega arith)
-
 pub flags-of-spec : {M : Type 1} → statement M
+unfolding flagsOf
 flags-of-spec =
     tie.close
     (tie.spec
@@ -20,4 +17,4 @@ flags-of-spec =
     (λ c. search needs)
     (λ c κs. search needs)
     (λ c. search needs)
-    returns)
+    (λ c. rw (← c .before .before .before .before .before .bit .ensures) (omega arith)))

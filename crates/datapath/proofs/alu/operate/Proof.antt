@@ -1,87 +1,25 @@
-use mathlib.Core.Path.{_≡_}
-use mathlib.Core.Logic.{inl, inr, ⊎-elim}
-use borrow.Author.Needs.{needs}
-use borrow.Author.Tests.{ne-eqb}
+use mathlib.Core.Path.{sym}
+use mathlib.Core.Logic.{_≢_, _⊎_, inl, inr}
+use Prim.Native.Nat.{ℕ, _+_, _≤_}
+use native.Mathlib.Nat.{eq-or-lt-of-le}
+use native.Mathlib.Omega.{arith}
+use lib.ListN.{List·getD-eq-default}
+use borrow.Author.Needs.{needs, zero≤}
 use Rattle.datapath.specs.Alu.{operate}
 use Rattle.datapath.proofs.alu.operate.Statement.{statement}
 use Rattle.datapath.proofs.alu.operate.Tie as tie
 
-returns : tie.Need-returns
-unfolding operate
-returns c =
-    let op = c .before .before .args .op in
-    ⊎-elim (λ (e : op ≡ 0). simp (c .logical .ensures, e)) (λ (e : op ≡ 8). simp (c .logical .ensures, e)) (c .before .match .keys1)
+-- by cases, the sum first
+either : {A B C : Type 0} → A ⊎ B → (A → C) → (B → C) → C
+either (inl a) f g = f a
+either (inr b) f g = g b
 
-returns-2 : tie.Need-returns-2
-unfolding operate
-returns-2 c =
-    let op = c .before .before .args .op in
-    ⊎-elim (λ (e : op ≡ 1). simp (c .logical2 .ensures, e)) (λ (e : op ≡ 9). simp (c .logical2 .ensures, e)) (c .before .match .keys2)
-
-returns-3 : tie.Need-returns-3
-unfolding operate
-returns-3 c =
-    let op = c .before .before .args .op in
-    ⊎-elim (λ (e : op ≡ 2). simp (c .difference .ensures, e)) (λ (e : op ≡ 10). simp (c .difference .ensures, e)) (c .before .match .keys3)
-
-returns-4 : tie.Need-returns-4
-unfolding operate
-returns-4 c = simp (c .difference2 .ensures, c .before .match .keys4)
-
-returns-5 : tie.Need-returns-5
-unfolding operate
-returns-5 c =
-    let op = c .before .before .args .op in
-    ⊎-elim (λ (e : op ≡ 4). simp (c .sum .ensures, e)) (λ (e : op ≡ 11). simp (c .sum .ensures, e)) (c .before .match .keys5)
-
-returns-6 : tie.Need-returns-6
-unfolding operate
-returns-6 c = simp (c .sum2 .ensures, c .before .match .keys6)
-
-returns-7 : tie.Need-returns-7
-unfolding operate
-returns-7 c = simp (c .difference3 .ensures, c .before .match .keys7)
-
-returns-8 : tie.Need-returns-8
-unfolding operate
-returns-8 c = simp (c .difference4 .ensures, c .before .match .keys8)
-
-returns-9 : tie.Need-returns-9
-unfolding operate
-returns-9 c = simp (c .logical3 .ensures, c .before .match .keys9)
-
-returns-10 : tie.Need-returns-10
-unfolding operate
-returns-10 c = simp (c .logical4 .ensures, c .before .match .keys10)
-
-returns-11 : tie.Need-returns-11
-unfolding operate
-returns-11 c = simp (c .logical5 .ensures, c .before .match .keys11)
-
-returns-12 : tie.Need-returns-12
-unfolding operate
-returns-12 c =
-    let n = c .before .match .rest in
-    simp (
-      c .logical6 .ensures,
-      ne-eqb _ _ (λ e. n .0 .0 .0 .0 .0 .0 .0 .0 .0 .0 .1 (inl e)),
-      ne-eqb _ _ (λ e. n .0 .0 .0 .0 .0 .0 .0 .0 .0 .1 (inl e)),
-      ne-eqb _ _ (λ e. n .0 .0 .0 .0 .0 .0 .0 .0 .1 (inl e)),
-      ne-eqb _ _ (n .0 .0 .0 .0 .0 .0 .0 .1),
-      ne-eqb _ _ (λ e. n .0 .0 .0 .0 .0 .0 .1 (inl e)),
-      ne-eqb _ _ (n .0 .0 .0 .0 .0 .1),
-      ne-eqb _ _ (n .0 .0 .0 .0 .1),
-      ne-eqb _ _ (n .0 .0 .0 .1),
-      ne-eqb _ _ (λ e. n .0 .0 .0 .0 .0 .0 .0 .0 .0 .0 .1 (inr e)),
-      ne-eqb _ _ (λ e. n .0 .0 .0 .0 .0 .0 .0 .0 .0 .1 (inr e)),
-      ne-eqb _ _ (λ e. n .0 .0 .0 .0 .0 .0 .0 .0 .1 (inr e)),
-      ne-eqb _ _ (λ e. n .0 .0 .0 .0 .0 .0 .1 (inr e)),
-      ne-eqb _ _ (n .0 .0 .1),
-      ne-eqb _ _ (n .0 .1),
-      ne-eqb _ _ (n .1),
-    )
+-- op is none of five numbers more
+five : {op : ℕ} (k : ℕ) → k ≤ op → op ≢ k → op ≢ k + 1 → op ≢ k + 2 → op ≢ k + 3 → op ≢ k + 4 → k + 5 ≤ op
+five k l n₀ n₁ n₂ n₃ n₄ = omega arith
 
 pub operate-spec : {M : Type 1} → statement M
+unfolding operate
 operate-spec =
     tie.close
     (tie.spec
@@ -97,15 +35,20 @@ operate-spec =
     (λ c κs. search needs)
     (λ c κs. search needs)
     (λ c κs. search needs)
-    returns
-    returns-2
-    returns-3
-    returns-4
-    returns-5
-    returns-6
-    returns-7
-    returns-8
-    returns-9
-    returns-10
-    returns-11
-    returns-12)
+    (λ c. either (c .before .match .keys1) (λ e. simp (c .logical .ensures, e)) (λ e. simp (c .logical .ensures, e)))
+    (λ c. either (c .before .match .keys2) (λ e. simp (c .logical2 .ensures, e)) (λ e. simp (c .logical2 .ensures, e)))
+    (λ c. either (c .before .match .keys3) (λ e. simp (c .difference .ensures, e)) (λ e. simp (c .difference .ensures, e)))
+    (λ c. simp (c .difference2 .ensures, c .before .match .keys4))
+    (λ c. either (c .before .match .keys5) (λ e. simp (c .sum .ensures, e)) (λ e. simp (c .sum .ensures, e)))
+    (λ c. simp (c .sum2 .ensures, c .before .match .keys6))
+    (λ c. simp (c .difference3 .ensures, c .before .match .keys7))
+    (λ c. simp (c .difference4 .ensures, c .before .match .keys8))
+    (λ c. simp (c .logical3 .ensures, c .before .match .keys9))
+    (λ c. simp (c .logical4 .ensures, c .before .match .keys10))
+    (λ c. simp (c .logical5 .ensures, c .before .match .keys11))
+    (λ c.
+    let (((((((((((_, and), eor), sub), rsb), add), adc), sbc), rsc), orr), mov), bic) = c .before .match .rest in
+    let low = five 0 zero≤ (λ e. and (inl e)) (λ e. eor (inl e)) (λ e. sub (inl e)) rsb (λ e. add (inl e)) in
+    let mid = five 5 low adc sbc rsc (λ e. and (inr e)) (λ e. eor (inr e)) in
+    let high = five 10 mid (λ e. sub (inr e)) (λ e. add (inr e)) orr mov bic in
+    either (eq-or-lt-of-le high) (λ e. simp (c .logical6 .ensures, sym e)) (λ l. simp (c .logical6 .ensures, List·getD-eq-default))))

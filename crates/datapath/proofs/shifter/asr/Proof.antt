@@ -5,17 +5,8 @@ use Rattle.datapath.proofs.Moved.{signed-whole}
 use Rattle.datapath.proofs.shifter.asr.Statement.{statement}
 use Rattle.datapath.proofs.shifter.asr.Tie as tie
 
-returns : tie.Need-returns
-unfolding asr
-returns c = simp (c .bit .ensures, c .before .signed .ensures, lt-ltb _ _ (c .before .before .if1 .taken))
-
-returns-2 : tie.Need-returns-2
-unfolding asr
-returns-2 c =
-    let at = c .before .before in
-    simp (c .bit2 .ensures, c .before .signed2 .ensures, le-ltb _ _ (at .if1 .left), signed-whole _ (at .before .fits .v .fits))
-
 pub asr-spec : {M : Type 1} → statement M
+unfolding asr
 asr-spec =
     tie.close
     (tie.spec
@@ -24,5 +15,7 @@ asr-spec =
     (λ c κs. search needs)
     (λ c κs. search needs)
     (λ c κs. search needs)
-    returns
-    returns-2)
+    (λ c. simp (c .bit .ensures, c .before .signed .ensures, lt-ltb _ _ (c .before .before .if1 .taken)))
+    (λ c.
+    let at = c .before .before in
+    simp (c .bit2 .ensures, c .before .signed2 .ensures, le-ltb _ _ (at .if1 .left), signed-whole _ (at .before .fits .v .fits))))

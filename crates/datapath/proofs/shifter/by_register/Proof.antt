@@ -4,13 +4,11 @@ use Rattle.datapath.specs.Shifter.{byRegister}
 use Rattle.datapath.proofs.shifter.by_register.Statement.{statement}
 use Rattle.datapath.proofs.shifter.by_register.Tie as tie
 
-returns : tie.Need-returns
-unfolding byRegister
-returns c = simp (eq-eqb _ _ (c .if1 .taken))
-
-returns-2 : tie.Need-returns-2
-unfolding byRegister
-returns-2 c = simp (c .shift .ensures, ne-eqb _ _ (c .before .if1 .left))
-
 pub by-register-spec : {M : Type 1} → statement M
-by-register-spec = tie.close (tie.spec (λ c κs. search needs) returns returns-2)
+unfolding byRegister
+by-register-spec =
+    tie.close
+    (tie.spec
+    (λ c κs. search needs)
+    (λ c. simp (eq-eqb _ _ (c .if1 .taken)))
+    (λ c. simp (c .shift .ensures, ne-eqb _ _ (c .before .if1 .left))))

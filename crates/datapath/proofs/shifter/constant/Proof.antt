@@ -7,16 +7,15 @@ use Rattle.datapath.specs.Shifter.{constant, ror, rotated}
 use Rattle.datapath.proofs.shifter.constant.Statement.{statement}
 use Rattle.datapath.proofs.shifter.constant.Tie as tie
 
-returns : tie.Need-returns
-unfolding constant
-returns c = simp (eq-eqb _ _ (c .if1 .taken))
-
-returns-2 : tie.Need-returns-2
+pub constant-spec : {M : Type 1} → statement M
 unfolding constant ror rotated
-returns-2 c =
+constant-spec =
+    tie.close
+    (tie.spec
+    (λ c. search needs)
+    (λ c κs. search needs)
+    (λ c. simp (eq-eqb _ _ (c .if1 .taken)))
+    (λ c.
     let r = c .before .before .args .r in
     let e : r % 16 * 2 % 32 ≡ 2 * r % 32 = omega arith in
-    simp (c .ror .ensures, e, ne-eqb _ _ (c .before .if1 .left))
-
-pub constant-spec : {M : Type 1} → statement M
-constant-spec = tie.close (tie.spec (λ c. search needs) (λ c κs. search needs) returns returns-2)
+    simp (c .ror .ensures, e, ne-eqb _ _ (c .before .if1 .left))))

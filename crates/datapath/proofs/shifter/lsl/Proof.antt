@@ -8,17 +8,8 @@ use Rattle.datapath.proofs.Moved.{moved-out}
 use Rattle.datapath.proofs.shifter.lsl.Statement.{statement}
 use Rattle.datapath.proofs.shifter.lsl.Tie as tie
 
-returns : tie.Need-returns
-unfolding lsl
-returns c = simp (c .bit .ensures, le-leb _ _ (le-of-lt (c .before .if1 .taken)))
-
-returns-2 : tie.Need-returns-2
-unfolding lsl
-returns-2 c =
-    let v = c .before .before .args .v in
-    simp (c .bit2 .ensures, moved-out (λ (n : ℕ). v * 2 ^ n % 2 ^ 32) (λ (n : ℕ). bit v (32 - n)) _ (mul-mod-left v (2 ^ 32)) (c .before .if1 .left))
-
 pub lsl-spec : {M : Type 1} → statement M
+unfolding lsl
 lsl-spec =
     tie.close
     (tie.spec
@@ -26,5 +17,7 @@ lsl-spec =
     (λ c. search needs)
     (λ c κs. search needs)
     (λ c κs. search needs)
-    returns
-    returns-2)
+    (λ c. simp (c .bit .ensures, le-leb _ _ (le-of-lt (c .before .if1 .taken))))
+    (λ c.
+    let v = c .before .before .args .v in
+    simp (c .bit2 .ensures, moved-out (λ (n : ℕ). v * 2 ^ n % 2 ^ 32) (λ (n : ℕ). bit v (32 - n)) _ (mul-mod-left v (2 ^ 32)) (c .before .if1 .left))))

@@ -9,17 +9,8 @@ use Rattle.datapath.proofs.Moved.{moved-out}
 use Rattle.datapath.proofs.shifter.lsr.Statement.{statement}
 use Rattle.datapath.proofs.shifter.lsr.Tie as tie
 
-returns : tie.Need-returns
-unfolding lsr
-returns c = simp (c .bit .ensures, le-leb _ _ (le-of-lt (c .before .if1 .taken)))
-
-returns-2 : tie.Need-returns-2
-unfolding lsr
-returns-2 c =
-    let v = c .before .before .args .v in
-    simp (c .bit2 .ensures, moved-out (λ (n : ℕ). v / 2 ^ n) (λ (n : ℕ). bit v (n - 1)) _ (omega arith) (c .before .if1 .left))
-
 pub lsr-spec : {M : Type 1} → statement M
+unfolding lsr
 lsr-spec =
     tie.close
     (tie.spec
@@ -27,5 +18,7 @@ lsr-spec =
     (λ c. search needs)
     (λ c κs. search needs)
     (λ c κs. search needs)
-    returns
-    returns-2)
+    (λ c. simp (c .bit .ensures, le-leb _ _ (le-of-lt (c .before .if1 .taken))))
+    (λ c.
+    let v = c .before .before .args .v in
+    simp (c .bit2 .ensures, moved-out (λ (n : ℕ). v / 2 ^ n) (λ (n : ℕ). bit v (n - 1)) _ (omega arith) (c .before .if1 .left))))

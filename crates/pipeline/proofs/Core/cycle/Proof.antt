@@ -1,4 +1,4 @@
-use Rattle.pipeline.proofs.AtOnce.{ended, begun, room}
+use Rattle.pipeline.proofs.Calls.{ended, begun, room}
 use borrow.Author.Needs.{needs}
 use Rattle.pipeline.proofs.Core.cycle.Statement.{statement}
 use Rattle.pipeline.proofs.Core.cycle.Tie as tie

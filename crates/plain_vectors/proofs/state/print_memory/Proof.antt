@@ -4,23 +4,6 @@ use borrow.Author.Needs.{needs}
 use Rattle.plain_vectors.proofs.state.print_memory.Statement.{statement}
 use Rattle.plain_vectors.proofs.state.print_memory.Tie as tie
 
-abbrev Inv-loop : tie.InvT-loop
-Inv-loop memory words i₀ i = i ≤ words
-
-abbrev μ-loop : tie.MeasureT-loop
-μ-loop memory words i₀ i = words - i
-
 pub print-memory-spec : {M : Type 1} → statement M
 print-memory-spec =
-    tie.close
-    (tie.spec
-    Inv-loop
-    μ-loop
-    (λ c. search needs)
-    (λ c. search needs)
-    (λ c κs. search needs)
-    (λ c κs. search needs)
-    (λ c. search needs)
-    (λ c. search needs)
-    (λ c. search needs)
-    (λ c. search needs))
+    tie.close (tie.spec (λ memory words i₀ i. i ≤ words) (λ memory words i₀ i. words - i) (λ c. search needs) (λ c. search needs) (λ c κs. search needs) (λ c κs. search needs) (λ c. search needs) (λ c. search needs) (λ c. search needs) (λ c. search needs))

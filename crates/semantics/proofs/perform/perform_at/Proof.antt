@@ -5,10 +5,10 @@ use Rattle.semantics.proofs.perform.perform_at.Statement.{statement}
 use Rattle.semantics.proofs.perform.perform_at.Tie as tie
 
 returns : tie.Need-returns
-returns c = fetched-as _ _ _ _ _ (sym (c .before .before .before .before .before .before .before .before .fetch .ensures) ∙ c .before .before .before .before .before .before .word .given .1) (c .before .before .perform .ensures)
+returns c = fetched-as _ (sym (c .before .before .before .before .before .before .before .before .fetch .ensures) ∙ c .before .before .before .before .before .before .word .given .1) (c .before .before .perform .ensures)
 
 returns-2 : tie.Need-returns-2
-returns-2 c = fetched-as _ _ _ _ _ (sym (c .before .before .before .fetch .ensures) ∙ c .before .enum-told .given .1) (blank-stop _ _ _ _ _ (c .stopped .ensures))
+returns-2 c = fetched-as _ (sym (c .before .before .before .fetch .ensures) ∙ c .before .enum-told .given .1) (blank-stop _ (c .stopped .ensures))
 
 pub perform-at-spec : {M : Type 1} → statement M
 perform-at-spec =

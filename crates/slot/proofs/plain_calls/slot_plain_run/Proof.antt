@@ -10,8 +10,7 @@ returns c =
 
 returns-2 : tie.Need-returns-2
 returns-2 c =
-    plain-ran _ _ _ (c .before .before .before .before .before .before .before .before .unpacked .ensures) (c .before .before .before .before .before .before .run .ensures) (sym (c .before .before .before .is-refusal .ensures) ∙ c .before .before .if1 .left)
-    (c .packed .ensures)
+    plain-ran _ _ _ (c .before .before .before .before .before .before .before .before .before .unpacked .ensures) (c .before .before .before .before .before .before .before .run .ensures) (sym (c .before .before .before .before .is-refusal .ensures) ∙ c .before .before .before .if1 .left) (c .pack .ensures)
 
 pub slot-plain-run-spec : {M : Type 1} → statement M
 slot-plain-run-spec =

@@ -6,7 +6,7 @@ use Rattle.steps.proofs.first.first_branch.Tie as tie
 
 returns : tie.Need-returns
 unfolding first
-returns c mem = last-as mem (c .last .ensures _ mem) (rw (c .before .before .behind .ensures) at (c .before .branch .ensures))
+returns c mem = last-as mem (c .last .ensures) (rw (c .before .before .behind .ensures) at (c .before .branch .ensures))
 
 pub first-branch-spec : {M : Type 1} → statement M
 first-branch-spec = tie.close (tie.spec (λ c κs. search needs) (λ c κs. search needs) (λ c κs. search needs) returns)

@@ -4,7 +4,7 @@ use Rattle.steps.proofs.later.later_processing.Statement.{statement}
 use Rattle.steps.proofs.later.later_processing.Tie as tie
 
 returns : tie.Need-returns
-returns c mem = last-as mem (c .last .ensures _ mem) (c .before .process .ensures)
+returns c mem = last-as mem (c .last .ensures) (c .before .process .ensures)
 
 pub later-processing-spec : {M : Type 1} → statement M
 later-processing-spec = tie.close (tie.spec (λ c κs. search needs) (λ c κs. search needs) returns)

@@ -1,17 +1,20 @@
 use Rattle.bits.proofs.Tests.{zero-by, nonzero-by}
 use mathlib.Core.Path.{sym, _∙_}
-use Rattle.stops.specs.Stops.{storedBy, movedBy, stopOf}
+use Rattle.stops.specs.Rules.{ruleBroken}
+use Rattle.stops.specs.Moves.{movesOf}
+use Rattle.stops.specs.Stops.{stopOf}
 use borrow.Author.Needs.{needs}
+use Rattle.stops.proofs.StopOrder.{from-span}
 use Rattle.stops.proofs.stop.block_stop.Statement.{statement}
 use Rattle.stops.proofs.stop.block_stop.Tie as tie
 
 returns : tie.Need-returns
-unfolding stopOf movedBy storedBy
-returns c = simp (nonzero-by (c .before .block-rule .ensures) (c .if1 .taken), c .before .block-rule .ensures)
+unfolding ruleBroken movesOf stopOf
+returns c bytes = simp (nonzero-by (c .before .block-rule .ensures) (c .if1 .taken), c .before .block-rule .ensures)
 
 returns-2 : tie.Need-returns-2
-unfolding stopOf movedBy storedBy
-returns-2 c = simp (c .moved-stop .ensures, c .before .count .ensures, c .before .before .lowest-address .ensures, zero-by (c .before .before .before .before .block-rule .ensures) (c .before .before .before .if1 .left), sym (c .before .before .before .before .block-rule .ensures) ∙ c .before .before .before .if1 .left, c .before .before .before .before .block-rule .ensures)
+unfolding ruleBroken movesOf stopOf
+returns-2 c bytes = simp (c .moved-stop .ensures, from-span, c .before .count .ensures, c .before .before .lowest-address .ensures, zero-by (c .before .before .before .before .block-rule .ensures) (c .before .before .before .if1 .left), sym (c .before .before .before .before .block-rule .ensures) ∙ c .before .before .before .if1 .left, c .before .before .before .before .block-rule .ensures)
 
 pub block-stop-spec : {M : Type 1} → statement M
 block-stop-spec =

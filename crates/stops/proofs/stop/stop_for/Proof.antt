@@ -1,22 +1,22 @@
 use mathlib.Core.Path.{sym, _∙_}
-use Rattle.stops.specs.Stops.{stopFor}
+use Rattle.stops.specs.Stops.{due, stopFor}
 use borrow.Author.Needs.{needs}
 use Rattle.stops.proofs.stop.stop_for.Statement.{statement}
 use Rattle.stops.proofs.stop.stop_for.Tie as tie
 
 returns : tie.Need-returns
-unfolding stopFor
-returns c = simp (c .enum-told .given .1, c .before .match .keys2)
+unfolding stopFor due
+returns c bytes = simp (c .enum-told .given .1, c .before .match .keys2)
 
 returns-2 : tie.Need-returns-2
-unfolding stopFor
-returns-2 c =
+unfolding stopFor due
+returns-2 c bytes =
     let passing = rw (c .before .before .before .before .field .ensures) at (sym (c .before .before .before .passes .ensures) ∙ c .before .before .if1 .taken) in
-    rw (c .before .before .before .before .before .before .x .given .1, passing) (rw (c .before .read .ensures) at (c .instruction-stop .ensures))
+    rw (c .before .before .before .before .before .before .x .given .1, passing) (rw (c .before .read .ensures) at (c .instruction-stop .ensures bytes))
 
 returns-3 : tie.Need-returns-3
-unfolding stopFor
-returns-3 c =
+unfolding stopFor due
+returns-3 c bytes =
     let failing = rw (c .before .before .field .ensures) at (sym (c .before .passes .ensures) ∙ c .if1 .left) in
     rw (c .before .before .before .before .x .given .1, failing)
 

@@ -5,6 +5,7 @@ use Prim.Native.Nat.{_<_}
 use native.Mathlib.Omega.{arith}
 use lib.ListN.{length}
 use borrow.Author.Needs.{needs}
+use Rattle.memory.specs.Memory.{memoryOf}
 use Rattle.transfer.specs.Block.{named, loads}
 use Rattle.transfer.proofs.NamedRegisters.{tail-length}
 use Rattle.transfer.proofs.Moves.{loads-none, loads-last, loads-step}
@@ -12,12 +13,12 @@ use Rattle.transfer.proofs.block.load.Statement.{statement}
 use Rattle.transfer.proofs.block.load.Tie as tie
 
 abbrev Inv-loop : tie.InvT-loop
-Inv-loop list registers₀ flags address memory left₀ n₀ at₀ registers left n at =
-    (loads (named left) registers flags at memory ≡ loads (named list) registers₀ flags address memory)
+Inv-loop list registers₀ flags address memory board left₀ n₀ at₀ registers left n at =
+    (loads (named left) registers flags at (memoryOf board memory) ≡ loads (named list) registers₀ flags address (memoryOf board memory))
     × (n ≡ length (named left))
 
 abbrev μ-loop : tie.MeasureT-loop
-μ-loop list registers₀ flags address memory left₀ n₀ at₀ registers left n at = n
+μ-loop list registers₀ flags address memory board left₀ n₀ at₀ registers left n at = n
 
 loop-holds : tie.Need-loop-holds Inv-loop μ-loop
 loop-holds c = (refl, c .count .ensures)

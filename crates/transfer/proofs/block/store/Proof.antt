@@ -5,6 +5,7 @@ use Prim.Native.Nat.{_<_}
 use native.Mathlib.Omega.{arith}
 use lib.ListN.{length}
 use borrow.Author.Needs.{needs}
+use Rattle.memory.specs.Memory.{memoryOf}
 use Rattle.transfer.specs.Block.{named, stores}
 use Rattle.transfer.proofs.NamedRegisters.{tail-length}
 use Rattle.transfer.proofs.Moves.{stores-none, stores-step}
@@ -12,13 +13,13 @@ use Rattle.transfer.proofs.block.store.Statement.{statement}
 use Rattle.transfer.proofs.block.store.Tie as tie
 
 abbrev Inv-loop : tie.InvT-loop
-Inv-loop list registers flags a12 address memory₀ left₀ n₀ at₀ memory left n at =
-    (stores (named left) registers flags a12 at memory ≡ stores (named list) registers flags a12 address memory₀)
+Inv-loop list registers flags a12 address memory₀ board left₀ n₀ at₀ memory left n at =
+    (stores (named left) registers flags a12 at (memoryOf board memory) ≡ stores (named list) registers flags a12 address (memoryOf board memory₀))
     × (n ≡ length (named left))
     × (length memory ≡ length memory₀)
 
 abbrev μ-loop : tie.MeasureT-loop
-μ-loop list registers flags a12 address memory₀ left₀ n₀ at₀ memory left n at = n
+μ-loop list registers flags a12 address memory₀ board left₀ n₀ at₀ memory left n at = n
 
 loop-holds : tie.Need-loop-holds Inv-loop μ-loop
 loop-holds c = (refl, c .count .ensures, refl)

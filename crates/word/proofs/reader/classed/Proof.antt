@@ -4,7 +4,7 @@ use Rattle.word.proofs.reader.classed.Statement.{statement}
 use Rattle.word.proofs.reader.classed.Tie as tie
 
 returns : tie.Need-returns
-returns c = simp (c .if2 .taken, c .before .if1 .taken, c .before .before .match .keys1)
+returns c = simp (c .extended .ensures, c .before .if2 .taken, c .before .before .if1 .taken, c .before .before .before .match .keys1)
 
 returns-2 : tie.Need-returns-2
 returns-2 c = simp (c .processing .ensures, c .before .by-register .ensures, c .before .before .if2 .left, c .before .before .before .if1 .taken, c .before .before .before .before .match .keys1)
@@ -35,4 +35,4 @@ returns-10 c = simp (ne-eqb _ _ (c .match .rest .1), ne-eqb _ _ (c .match .rest 
 
 pub classed-spec : {M : Type 1} → statement M
 classed-spec =
-    tie.close (tie.spec (λ c κs. search needs) (λ c κs. search needs) (λ c κs. search needs) (λ c κs. search needs) (λ c κs. search needs) (λ c κs. search needs) (λ c κs. search needs) (λ c κs. search needs) (λ c κs. search needs) (λ c κs. search needs) (λ c κs. search needs) (λ c κs. search needs) returns returns-2 returns-3 returns-4 returns-5 returns-6 returns-7 returns-8 returns-9 returns-10)
+    tie.close (tie.spec (λ c κs. search needs) (λ c κs. search needs) (λ c κs. search needs) (λ c κs. search needs) (λ c κs. search needs) (λ c κs. search needs) (λ c κs. search needs) (λ c κs. search needs) (λ c κs. search needs) (λ c κs. search needs) (λ c κs. search needs) (λ c κs. search needs) (λ c κs. search needs) returns returns-2 returns-3 returns-4 returns-5 returns-6 returns-7 returns-8 returns-9 returns-10)

@@ -1,9 +1,0 @@
-use borrow.Author.Needs.{needs}
-use Rattle.pipeline.proofs.run.zeroed.Statement.{statement}
-use Rattle.pipeline.proofs.run.zeroed.Tie as tie
-
-returns : tie.Need-returns
-returns c = simp (c .fresh .ensures)
-
-pub zeroed-spec : {M : Type 1} → statement M
-zeroed-spec = tie.close (tie.spec (λ c κs. search needs) returns)

@@ -1,0 +1,2 @@
+pub mod PlainArray
+pub mod Places

@@ -1,0 +1,2 @@
+pub mod RecordArray
+pub mod Places

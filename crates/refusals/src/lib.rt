@@ -1,0 +1,2 @@
+// What makes a record bad, and what a run refuses with.
+pub mod numbers;

@@ -1,0 +1,7 @@
+pub mod RunLoop
+pub mod FetchedAhead
+pub mod Flight
+pub mod Instruction
+pub mod PlainSteps
+pub mod WholeSteps
+pub mod QuickRoad

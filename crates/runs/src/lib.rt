@@ -1,0 +1,32 @@
+// Cycles until the budget is spent or a stop is found, and the quick road by whole instructions.
+mod quick;
+pub mod run;
+
+use cycle::Control;
+use cycle::Counts;
+
+// What a run hands back but the registers, which are lent: its answer, the cycles it used, and the rest of the core.
+pub struct ControlRan {
+    pub answer: u32,
+    pub used: u64,
+    pub control: Control,
+}
+
+// A core under way, and the cycles used to come there.
+pub struct Advanced {
+    pub used: u64,
+    pub control: Control,
+}
+
+// A core between two instructions: where the next one is, the flags and the counts.
+pub struct Between {
+    pub a: u32,
+    pub flags: u32,
+    pub counts: Counts,
+}
+
+// The same after whole instructions, and the cycles that they used.
+pub struct BetweenAfter {
+    pub used: u64,
+    pub at: Between,
+}

@@ -1,0 +1,42 @@
+// The own steps of each class (paper 01, the table of "Pipeline").
+ghost use mathlib.Core.Path.{_≡_};
+ghost use Rattle.semantics.specs.Duration.{processingSteps, singleSteps, blockSteps, ownSteps};
+use processing::shifts_by_register;
+use transfer::named::count;
+use word::Block;
+use word::Instruction;
+use word::Processing;
+use word::Single;
+
+pub fn processing_steps(i: Processing) -> u32
+    ensures { λ r. ⌜ r ≡ processingSteps i ⌝ }
+{
+    let o = i.operand;
+    if shifts_by_register(o) { 2 } else { 1 }
+}
+
+pub fn single_steps(i: Single) -> u32
+    ensures { λ r. ⌜ r ≡ singleSteps i ⌝ }
+{
+    if i.l { 3 } else { 2 }
+}
+
+pub fn block_steps(i: Block) -> u32
+    ensures { λ r. ⌜ r ≡ blockSteps i ⌝ }
+{
+    let n = count(i.list);
+    if i.l { n + 2 } else { n + 1 }
+}
+
+// In the registers as they stand.
+pub fn own_steps(i: Instruction, registers: &[u32; 15]) -> u32
+    ensures { λ r. ⌜ r ≡ ownSteps i (now (registers .entry)) ⌝ }
+{
+    match i {
+        Instruction::Processing(p) => processing_steps(p),
+        Instruction::Single(s) => single_steps(s),
+        Instruction::Block(b) => block_steps(b),
+        Instruction::Branch(_) => 1,
+        Instruction::Other(_) => 1,
+    }
+}

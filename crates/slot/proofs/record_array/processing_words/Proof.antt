@@ -1,9 +1,0 @@
-use borrow.Author.Needs.{needs}
-use Rattle.slot.proofs.record_array.processing_words.Statement.{statement}
-use Rattle.slot.proofs.record_array.processing_words.Tie as tie
-
-returns : tie.Need-returns
-returns c = simp (c .number .ensures, c .before .quad-of .ensures)
-
-pub processing-words-spec : {M : Type 1} → statement M
-processing-words-spec = tie.close (tie.spec (λ c κs. search needs) (λ c κs. search needs) returns)

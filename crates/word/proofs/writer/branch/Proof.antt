@@ -1,9 +1,0 @@
-use borrow.Author.Needs.{needs}
-use Rattle.word.proofs.writer.branch.Statement.{statement}
-use Rattle.word.proofs.writer.branch.Tie as tie
-
-returns : tie.Need-returns
-returns c = simp (c .put .ensures, c .before .flag .ensures, c .before .before .head .ensures)
-
-pub branch-spec : {M : Type 1} → statement M
-branch-spec = tie.close (tie.spec (λ c κs. search needs) (λ c κs. search needs) (λ c κs. search needs) returns)
