@@ -1,5 +1,7 @@
 -- A choice between two values by a test.
+use Prim.Native.Nat.{ℕ}
 use mathlib.Core.Bool.{Bool, true, false}
+use lib.Dec.{eqb}
 
 -- a where the test holds, else b
 abbrev pub pick {ℓ} : {A : Type ℓ} → Bool → A → A → A
@@ -12,3 +14,7 @@ same true true = true
 same true false = false
 same false true = false
 same false false = true
+
+-- a call that a number ends, which is not 0; else it goes on
+abbrev pub unless {ℓ} : {A : Type ℓ} → ℕ → (ℕ → A) → A → A
+unless number ended goes = pick (eqb number 0) goes (ended number)

@@ -34,11 +34,3 @@ counts cycles retired = record { cycles = cycles; retired = retired }
 -- the largest count of cycles
 abbrev pub mostCycles : ℕ
 mostCycles = 2 ^ 40
-
--- how many values a counter has
-abbrev pub counters : ℕ
-counters = 2 ^ 26
-
--- the bytes of the largest memory that a start accepts
-abbrev pub mostBytes : ℕ
-mostBytes = 65536

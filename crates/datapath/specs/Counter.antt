@@ -1,13 +1,17 @@
 -- The program counter and the words of R15 (paper 01, "R15 read").
 use Prim.Native.Nat.{ℕ, _+_, _-_, _*_, _/_, _%_, _^_}
 
+-- how many values a counter has
+abbrev pub counters : ℕ
+counters = 2 ^ 26
+
 -- counter values are modulo 2^26
 unfoldable pub ahead : ℕ → ℕ → ℕ
-ahead a n = (a + n) % 2 ^ 26
+ahead a n = (a + n) % counters
 
 -- the address of the instruction that is n bytes behind the counter: 8 in step 1, 12 in a later step
 unfoldable pub behind : ℕ → ℕ → ℕ
-behind pc n = (pc + (2 ^ 26 - n)) % 2 ^ 26
+behind pc n = (pc + (counters - n)) % counters
 
 -- bits 25..2 of a word, at their places
 abbrev pub counterBits : ℕ → ℕ

@@ -2,11 +2,14 @@
 ghost use mathlib.Core.Path.{_≡_};
 ghost use Rattle.datapath.specs.Counter.{ahead, behind, counter, r15Word};
 
+// How many values a counter has.
+pub const COUNTERS: u32 = 0x4000000;
+
 // The counter n bytes on, modulo 2^26.
 pub fn ahead(a: u32, n: u32) -> u32
     ensures { λ r. ⌜ r ≡ ahead a n ⌝ }
 {
-    std::num::wrapping_add_u32(a, n) % 0x4000000
+    std::num::wrapping_add_u32(a, n) % COUNTERS
 }
 
 // The address of the instruction whose step 1 sees this counter.

@@ -13,13 +13,14 @@ use lib.Dec.{ltb, leb, eqb}
 use borrow.Author.Tests.{lt-ltb, le-ltb, le-leb, eq-eqb, ne-eqb, ltb-true, ltb-false, eqb-true, eqb-false}
 use Rattle.bits.specs.Choice.{pick}
 use Rattle.plain.specs.Machine as plain
-use Rattle.plain.specs.Numbers.{badLength, isStop, startAnswer}
+use Rattle.plain.specs.Numbers.{mostBytes, badLength, isStop, startAnswer}
 use Rattle.plain.specs.Run as plain-calls
 use Rattle.plain.specs.Trace.{trace, stopMet, duration, durations, Does}
 use Rattle.plain.proofs.Accepted as plain-start
 use Rattle.steps.specs.declared.Phase.{Phase}
 use Rattle.steps.specs.declared.Phase.the-variants.{Step1, Refill1, Refill2, Later}
-use Rattle.cycle.specs.Machine.{Machine, mostCycles, counters, mostBytes}
+use Rattle.datapath.specs.Counter.{counters}
+use Rattle.cycle.specs.Machine.{Machine, mostCycles}
 use Rattle.cycle.specs.Cycle.{cycle}
 use Rattle.cycle.specs.StopFound.{isStep1, stopFound}
 use Rattle.cycle.proofs.StopFound.{no-stop}

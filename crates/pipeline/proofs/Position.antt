@@ -9,7 +9,9 @@ use native.Mathlib.Nat.{eq-or-lt-of-le, le-of-suc-le-suc}
 use lib.ListN.{length}
 use Rattle.plain.specs.Machine as plain
 use Rattle.plain.specs.Trace.{trace, stopMet, duration, durations, Does}
-use Rattle.cycle.specs.Machine.{Machine, machine, counters, mostBytes}
+use Rattle.datapath.specs.Counter.{counters}
+use Rattle.plain.specs.Numbers.{mostBytes}
+use Rattle.cycle.specs.Machine.{Machine, machine}
 use Rattle.cycle.specs.Cycle.{cycle, ownOf}
 use Rattle.cycle.specs.StopFound.{stopFound}
 use Rattle.cycle.specs.Fresh.{freshControl}

@@ -18,7 +18,7 @@ use Rattle.word.specs.declared.Block.{Block}
 use Rattle.word.specs.declared.Instruction.{Instruction}
 use Rattle.word.specs.Reader.{readOf, isOther}
 use Rattle.condition.specs.Condition.{passes}
-use Rattle.datapath.specs.Counter.{ahead, behind, counter}
+use Rattle.datapath.specs.Counter.{ahead, behind, counter, counters}
 use Rattle.datapath.specs.Alu.{flagsOf, storesResult}
 use Rattle.datapath.proofs.Counters.{ahead-lt, ahead-behind, ahead-word, counter-lt, counter-word}
 use Rattle.datapath.proofs.Flags.{flags-lt}
@@ -50,7 +50,8 @@ use Rattle.steps.specs.declared.Latches.{Latches}
 use Rattle.steps.specs.declared.Step.{Step}
 use Rattle.cycle.specs.declared.Pipe.{Pipe}
 use Rattle.cycle.specs.declared.Counts.{Counts}
-use Rattle.cycle.specs.Machine.{Machine, machine, lent, stateOf, pipe, counters, mostBytes}
+use Rattle.plain.specs.Numbers.{mostBytes}
+use Rattle.cycle.specs.Machine.{Machine, machine, lent, stateOf, pipe}
 use Rattle.steps.specs.Steps.{Own, own, last, ends, still, nextToMove, first, later, loadLater, storeLater, loadStep, blockLoadLater, storeStep, blockStoreLater}
 use Rattle.cycle.specs.Cycle.{cycle, firstDue, laterOf, ownOf, fetches, pipeAfter, phaseAfter, retiredBy}
 use Rattle.cycle.specs.StopFound.{isStep1, stopFound}

@@ -3,6 +3,7 @@ use Prim.Native.Nat.{ℕ}
 use mathlib.Core.List.{List}
 use lib.Dec.{eqb}
 use lib.ListN.{length, replicate}
+use Rattle.bits.specs.Choice as choice
 use Rattle.bits.specs.Choice.{pick}
 use Rattle.memory.specs.declared.Fetched.the-variants.{Blank}
 use Rattle.plain.specs.Numbers.{startAnswer}
@@ -43,7 +44,7 @@ start g flags entry mem =
 
 -- a call that ends with a number before its first cycle hands everything back unchanged, with 0 cycles; 0 is no such number
 abbrev pub unless : ℕ → Machine → Ran → Ran
-unless number m goes = pick (eqb number 0) goes (ran number 0 m)
+unless number m goes = choice.unless number (λ q. ran q 0 m) goes
 
 -- a run that is lent so many bytes, with a budget: refused, or a stop held is repeated, or it goes on
 unfoldable pub run : ℕ → ℕ → Machine → Ran

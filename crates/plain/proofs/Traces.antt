@@ -5,10 +5,14 @@ use mathlib.Core.Path.{_≡_, refl, sym, ap, subst, _∙_}
 use mathlib.Core.Logic.{_≢_, ⊎-elim}
 use native.Mathlib.Nat.{add-zero, eq-or-lt-of-le, le-of-suc-le-suc}
 use native.Mathlib.Omega.{arith}
+use mathlib.Core.Bool.{Bool, true, false}
+use lib.Dec.{eqb}
 use lib.ListN.{length}
+use borrow.Author.Tests.{eqb-false}
+use Rattle.bits.specs.Choice.{pick}
 use Rattle.plain.specs.Machine.{Machine, performedAt, step}
 use Rattle.plain.specs.Numbers.{refusal}
-use Rattle.plain.specs.Run.{Ran, ran, oneMore, runFrom, repeated, refused, run}
+use Rattle.plain.specs.Run.{Ran, ran, oneMore, runFrom, run}
 use Rattle.plain.proofs.Loop.{met}
 use Rattle.plain.specs.Trace.{trace, stopMet, Does, Halted, Traced}
 
@@ -18,12 +22,12 @@ unfolding trace
 trace-front m zero = refl
 trace-front m (suc k) = ap step (trace-front m k)
 
-onward : (m : Machine) (j k : ℕ) → trace (trace m j) k ≡ trace m (j + k)
+goes-on : (m : Machine) (j k : ℕ) → trace (trace m j) k ≡ trace m (j + k)
 unfolding trace
-onward m j zero = ap (trace m) (sym (add-zero j))
-onward m j (suc k) =
+goes-on m j zero = ap (trace m) (sym (add-zero j))
+goes-on m j (suc k) =
     let e : suc (j + k) ≡ j + suc k = omega arith in
-    ap step (onward m j k) ∙ ap (trace m) e
+    ap step (goes-on m j k) ∙ ap (trace m) e
 
 -- the stop that a step leaves is the one met
 step-stop : (m : Machine) → step m .plain .stop ≡ stopMet m
@@ -81,33 +85,42 @@ from-stopped (suc n) m z e = go (step m .plain .stop) refl (from-stopped n (step
 
 -- ---- the run
 
-spent : (n : ℕ) (m : Machine) → run n m .answer ≡ 0 → (run n m ≡ ran 0 n (trace m n)) × Does m n
-unfolding run
-spent n m = by-refusal (refusal (m .plain) (length (m .memory)) n)
-  where
-    by-stop : (q : ℕ) → repeated q n m .answer ≡ 0 → Spent n m (repeated q n m)
-    by-stop zero e = from-spent n m e
-    by-stop (suc q) e = absurd (omega arith)
+module _ (n : ℕ) (m : Machine) where
+  abbrev refused : ℕ
+  refused = refusal (m .plain) (length (m .memory)) n
 
-    by-refusal : (q : ℕ) → refused q n m .answer ≡ 0 → Spent n m (refused q n m)
-    by-refusal zero e = by-stop (m .plain .stop) e
-    by-refusal (suc q) e = absurd (omega arith)
+  abbrev held : Bool → Ran
+  held b = pick b (runFrom n m) (ran (m .plain .stop) 0 m)
 
-halted : (n : ℕ) (m : Machine) → m .plain .stop ≡ 0 → run n m .machine .plain .stop ≢ 0 → Found n m (run n m)
-unfolding run
-halted n m z = by-refusal (refusal (m .plain) (length (m .memory)) n)
-  where
-    by-stop : (q : ℕ) → repeated q n m .machine .plain .stop ≢ 0 → Found n m (repeated q n m)
-    by-stop zero e = from-stopped n m z e
-    by-stop (suc q) e = absurd (e z)
+  spent : run n m .answer ≡ 0 → (run n m ≡ ran 0 n (trace m n)) × Does m n
+  unfolding run
+  spent = by-refusal (eqb refused 0) refl
+    where
+      by-stop : (b : Bool) → eqb (m .plain .stop) 0 ≡ b → held b .answer ≡ 0 → Spent n m (held b)
+      by-stop true t e = from-spent n m e
+      by-stop false t e = absurd (eqb-false _ _ t e)
 
-    by-refusal : (q : ℕ) → refused q n m .machine .plain .stop ≢ 0 → Found n m (refused q n m)
-    by-refusal zero e = by-stop (m .plain .stop) e
-    by-refusal (suc q) e = absurd (e z)
+      by-refusal : (b : Bool) → eqb refused 0 ≡ b → pick b (held (eqb (m .plain .stop) 0)) (ran refused 0 m) .answer ≡ 0
+          → Spent n m (pick b (held (eqb (m .plain .stop) 0)) (ran refused 0 m))
+      by-refusal true t e = by-stop (eqb (m .plain .stop) 0) refl e
+      by-refusal false t e = absurd (eqb-false _ _ t e)
+
+  halted : m .plain .stop ≡ 0 → run n m .machine .plain .stop ≢ 0 → Found n m (run n m)
+  unfolding run
+  halted z = by-refusal (eqb refused 0)
+    where
+      by-stop : (b : Bool) → held b .machine .plain .stop ≢ 0 → Found n m (held b)
+      by-stop true e = from-stopped n m z e
+      by-stop false e = absurd (e z)
+
+      by-refusal : (b : Bool) → pick b (held (eqb (m .plain .stop) 0)) (ran refused 0 m) .machine .plain .stop ≢ 0
+          → Found n m (pick b (held (eqb (m .plain .stop) 0)) (ran refused 0 m))
+      by-refusal true e = by-stop (eqb (m .plain .stop) 0) e
+      by-refusal false e = absurd (e z)
 
 pub traced : Traced
 traced = record {
   spent = spent;
   stopped = λ n m z e. let f = halted n m z e in record { less = f .less; does = f .does; stop = f .stop; leaves = f .leaves };
-  onward = onward;
+  goes-on = goes-on;
 }

@@ -1,14 +1,26 @@
 -- Numbers 1 to 4, 11 and 12, as far as the plain machine has them (paper 01, the two lists of numbers and "Plain machine").
-use Prim.Native.Nat.{ℕ, _%_, _^_}
+use Prim.Native.Nat.{ℕ, _%_}
 use mathlib.Core.Bool.{Bool, not, _||_, _&&_}
 use lib.Dec.{ltb, leb, eqb}
 use lib.ListN.{length}
+use Rattle.datapath.specs.Counter.{counters}
 use Rattle.bits.specs.Choice.{pick}
 use Rattle.plain.specs.declared.Plain.{Plain}
 
+-- the smallest and the largest memory, in bytes
+abbrev pub leastBytes : ℕ
+leastBytes = 16
+
+abbrev pub mostBytes : ℕ
+mostBytes = 65536
+
+-- the largest budget of a run
+abbrev pub mostBudget : ℕ
+mostBudget = 1000000
+
 -- 1: a length that is not a multiple of 4, or outside 16..65,536
 abbrev pub badLength : ℕ → Bool
-badLength n = not (eqb (n % 4) 0) || ltb n 16 || ltb 65536 n
+badLength n = not (eqb (n % 4) 0) || ltb n leastBytes || ltb mostBytes n
 
 -- 2: an entry that is not a multiple of 4 or not below the length
 abbrev pub badEntry : ℕ → ℕ → Bool
@@ -28,7 +40,7 @@ isStop stop = eqb stop 0 || (leb 21 stop && leb stop 25)
 
 -- an address that a counter can hold
 abbrev pub isCounter : ℕ → Bool
-isCounter a = eqb (a % 4) 0 && ltb a (2 ^ 26)
+isCounter a = eqb (a % 4) 0 && ltb a counters
 
 -- 11: a bad record
 unfoldable pub bad : Plain → Bool
@@ -36,7 +48,7 @@ bad p = badLength (p .board .size) || not (isCounter (p .a)) || badFlags (p .fla
 
 -- 3: a budget above 1,000,000
 abbrev pub badBudget : ℕ → Bool
-badBudget n = ltb 1000000 n
+badBudget n = ltb mostBudget n
 
 -- what a run of this record refuses with, or 0: 12, 11, 3
 unfoldable pub refusal : Plain → ℕ → ℕ → ℕ

@@ -3,6 +3,7 @@ use Prim.Native.Nat.{ℕ, zero, suc}
 use mathlib.Core.List.{List}
 use lib.Dec.{eqb}
 use lib.ListN.{length, replicate}
+use Rattle.bits.specs.Choice as choice
 use Rattle.bits.specs.Choice.{pick}
 use Rattle.plain.specs.declared.Plain.{Plain}
 use Rattle.plain.specs.Machine.{Machine, machine, plain, step}
@@ -42,15 +43,10 @@ unfoldable pub runFrom : ℕ → Machine → Ran
 runFrom zero m = ran 0 0 m
 runFrom (suc n) m = elim (step m .plain .stop) [ zero ↦ oneMore (runFrom n (step m)) | suc q ↦ ran (suc q) 0 (step m) ]
 
--- a stop held is repeated
-abbrev pub repeated : ℕ → ℕ → Machine → Ran
-repeated zero n m = runFrom n m
-repeated (suc q) n m = ran (suc q) 0 m
+-- a call that ends with a number before its first instruction hands everything back unchanged; 0 is no such number
+abbrev pub unless : ℕ → Machine → Ran → Ran
+unless number m goes = choice.unless number (λ q. ran q 0 m) goes
 
--- a refused call hands everything back unchanged
-abbrev pub refused : ℕ → ℕ → Machine → Ran
-refused zero n m = repeated (m .plain .stop) n m
-refused (suc q) n m = ran (suc q) 0 m
-
+-- refused, or a stop held is repeated, or it goes on
 unfoldable pub run : ℕ → Machine → Ran
-run n m = refused (refusal (m .plain) (length (m .memory)) n) n m
+run n m = unless (refusal (m .plain) (length (m .memory)) n) m (unless (m .plain .stop) m (runFrom n m))

@@ -40,4 +40,4 @@ pub record Traced : Type 0 where
   -- one of a machine that holds no stop and answers one did the instructions before it
   pub stopped : (n : ℕ) (m : Machine) → m .plain .stop ≡ 0 → run n m .machine .plain .stop ≢ 0 → Halted n m (run n m .done)
   -- and a list of runs goes on from there
-  pub onward : (m : Machine) (j k : ℕ) → trace (trace m j) k ≡ trace m (j + k)
+  pub goes-on : (m : Machine) (j k : ℕ) → trace (trace m j) k ≡ trace m (j + k)

@@ -2,12 +2,21 @@
 ghost use mathlib.Core.Path.{_≡_};
 ghost use Rattle.plain.specs.Numbers.{badLength, badEntry, badFlags, startAnswer, isStop, isCounter, bad, badBudget, refusal};
 use crate::Plain;
+use datapath::counter::COUNTERS;
+
+// The smallest and the largest memory, in bytes.
+pub const LEAST_BYTES: usize = 16;
+
+pub const MOST_BYTES: usize = 65536;
+
+// The largest budget of a run.
+pub const MOST_BUDGET: u64 = 1000000;
 
 // 1
 pub fn length_is_bad(length: usize) -> bool
     ensures { λ r. ⌜ r ≡ badLength length ⌝ }
 {
-    (length % 4 != 0) | (length < 16) | (65536 < length)
+    (length % 4 != 0) | (length < LEAST_BYTES) | (MOST_BYTES < length)
 }
 
 // 2
@@ -48,14 +57,14 @@ pub fn is_stop(stop: u32) -> bool
 pub fn is_counter(a: u32) -> bool
     ensures { λ r. ⌜ r ≡ isCounter a ⌝ }
 {
-    (a % 4 == 0) & (a < 0x4000000)
+    (a % 4 == 0) & (a < COUNTERS)
 }
 
 // 3
 pub fn budget_is_bad(budget: u64) -> bool
     ensures { λ r. ⌜ r ≡ badBudget budget ⌝ }
 {
-    1000000 < budget
+    MOST_BUDGET < budget
 }
 
 // 11

@@ -16,7 +16,7 @@ use datapath::shifter::by_amount;
 use datapath::shifter::by_register;
 use datapath::shifter::constant;
 use registers::Goes;
-use registers::Turn;
+use registers::Outcome;
 use registers::arrive;
 use registers::register;
 use word::Operand;
@@ -65,21 +65,21 @@ fn compute(i: Processing, registers: &[u32; 15], flags: u32, pc: u32, b: Shifted
 }
 
 // TST to CMN store no result.
-fn store_result(i: Processing, registers: &mut [u32; 15], flags: u32, r: Computed) -> Turn
+fn store_result(i: Processing, registers: &mut [u32; 15], flags: u32, r: Computed) -> Outcome
     ensures { λ t. ⌜ out (now (registers .exit)) (t .flags) (t .goes) ≡ stored i (now (registers .entry)) flags r ⌝ }
 {
     let f = flags_after(i, flags, r);
     if stores_result(i.operation) {
         arrive(registers, f, i.rd, r.value)
     } else {
-        Turn {
+        Outcome {
             flags: f,
             goes: Goes::Next,
         }
     }
 }
 
-pub fn process(i: Processing, registers: &mut [u32; 15], flags: u32, pc: u32) -> Turn
+pub fn process(i: Processing, registers: &mut [u32; 15], flags: u32, pc: u32) -> Outcome
     ensures { λ r. ⌜ out (now (registers .exit)) (r .flags) (r .goes) ≡ processed i (now (registers .entry)) flags pc ⌝ }
 {
     let o = i.operand;

@@ -9,7 +9,7 @@ pub enum Goes {
 }
 
 // What an instruction leaves beside the registers.
-pub struct Turn {
+pub struct Outcome {
     pub flags: u32,
     pub goes: Goes,
 }
@@ -29,17 +29,17 @@ pub fn put(registers: &mut [u32; 15], n: u32, value: u32)
 }
 
 // A result or a loaded word on its way to register n, which for 15 is the counter.
-pub fn arrive(registers: &mut [u32; 15], flags: u32, n: u32, value: u32) -> Turn
+pub fn arrive(registers: &mut [u32; 15], flags: u32, n: u32, value: u32) -> Outcome
     ensures { λ r. ⌜ out (now (registers .exit)) (r .flags) (r .goes) ≡ arrives (now (registers .entry)) flags n value ⌝ }
 {
     if n < 15 {
         registers[n as usize] = value;
-        Turn {
+        Outcome {
             flags,
             goes: Goes::Next,
         }
     } else {
-        Turn {
+        Outcome {
             flags,
             goes: Goes::To(value),
         }

@@ -18,7 +18,7 @@ use Rattle.word.specs.declared.Branch.{Branch}
 use Rattle.word.specs.declared.Instruction.{Instruction}
 use Rattle.word.specs.Reader.{readOf, isOther}
 use Rattle.condition.specs.Condition.{passes}
-use Rattle.datapath.specs.Counter.{ahead}
+use Rattle.datapath.specs.Counter.{ahead, counters}
 use Rattle.memory.specs.declared.Board.{Board}
 use Rattle.memory.specs.Memory.{Memory, limit, wordAt, readWord, writeWord}
 use Rattle.memory.specs.declared.Fetched.{Fetched}
@@ -41,7 +41,8 @@ use Rattle.stops.proofs.Spans.{last-decides}
 use Rattle.datapath.proofs.Counters.{behind-ahead}
 use Rattle.steps.specs.declared.Phase.the-variants.{Step1, Later}
 use Rattle.steps.specs.declared.Latches.{Latches}
-use Rattle.cycle.specs.Machine.{Machine, pipe, counts, counters, mostBytes}
+use Rattle.plain.specs.Numbers.{mostBytes}
+use Rattle.cycle.specs.Machine.{Machine, pipe, counts}
 use Rattle.steps.specs.Steps.{latches, own, on, idle, first, later, loadLater, storeLater, loadStep, blockLoadLater, storeStep, blockStoreLater, nextToMove}
 use Rattle.cycle.specs.Cycle.{cycle, ownOf}
 use Rattle.runs.specs.Boundary.{boundary, lead}

@@ -10,7 +10,7 @@ use borrow.Author.Tests.{ne-eqb, eqb-true}
 use Rattle.bits.specs.Choice.{pick}
 use Rattle.word.specs.declared.Instruction.{Instruction}
 use Rattle.word.specs.Reader.{isOther}
-use Rattle.datapath.specs.Counter.{ahead, counter}
+use Rattle.datapath.specs.Counter.{ahead, counter, counters}
 use Rattle.datapath.proofs.Counters.{ahead-lt, behind-ahead, counter-lt}
 use Rattle.memory.specs.declared.Fetched.{Fetched}
 use Rattle.memory.specs.Memory.{wordAt}
@@ -30,7 +30,8 @@ use Rattle.semantics.proofs.Durations.{refills-short, steps-short}
 use Rattle.semantics.proofs.Stopped.{stopped-unchanged}
 use Rattle.plain.specs.Machine as plain
 use Rattle.plain.specs.Trace.{stopMet, duration}
-use Rattle.cycle.specs.Machine.{Machine, counters, mostBytes}
+use Rattle.plain.specs.Numbers.{mostBytes}
+use Rattle.cycle.specs.Machine.{Machine}
 use Rattle.cycle.specs.StopFound.{stopFound}
 use Rattle.cycle.specs.Cycle.{cycle}
 use Rattle.runs.specs.Boundary.{boundary}

@@ -9,7 +9,7 @@ use borrow.Author.Tests.{ltb-true, leb-true, eqb-true}
 use native.Mathlib.Omega.{arith}
 use native.Mathlib.Nat.{zero-add, add-zero}
 use Rattle.bits.specs.Choice.{pick}
-use Rattle.datapath.specs.Counter.{ahead, behind}
+use Rattle.datapath.specs.Counter.{ahead, behind, counters}
 use Rattle.datapath.proofs.Counters.{behind-lt, ahead-behind}
 use Rattle.memory.specs.Memory.{memoryOf, wordAt}
 use Rattle.memory.specs.declared.Fetched.{Fetched}
@@ -20,7 +20,8 @@ use Rattle.steps.specs.declared.Phase.{Phase}
 use Rattle.steps.specs.declared.Phase.the-variants.{Step1, Refill1, Refill2, Later}
 use Rattle.cycle.specs.declared.Control.{Control}
 use Rattle.runs.specs.declared.Between.{Between}
-use Rattle.cycle.specs.Machine.{Machine, machine, mostCycles, counters, mostBytes}
+use Rattle.plain.specs.Numbers.{mostBytes}
+use Rattle.cycle.specs.Machine.{Machine, machine, mostCycles}
 use Rattle.cycle.specs.StopFound.{stopFound}
 use Rattle.cycle.specs.Cycle.{cycle}
 use Rattle.runs.specs.Run.{Ran, ran, oneMore, moreBy, holding, runFrom}
@@ -47,8 +48,8 @@ continues-start b m h k =
     }
 
 -- two are one
-continues-and-true : (b u : ℕ) (m₀ m : Machine) (s : Stretch) → Continues b m₀ (stretch u m) → Continues (b - u) m s → Continues b m₀ (longer u s)
-continues-and-true b u m₀ m s o p =
+continues-both : (b u : ℕ) (m₀ m : Machine) (s : Stretch) → Continues b m₀ (stretch u m) → Continues (b - u) m s → Continues b m₀ (longer u s)
+continues-both b u m₀ m s o p =
     let r : (b - u) - s .used ≡ b - (u + s .used) = omega arith in
     let last = runFrom (b - (u + s .used)) (s .machine) in
     let sum : u + (s .used + last .used) ≡ (u + s .used) + last .used = omega arith in
@@ -90,7 +91,7 @@ to-step1 (suc b) m h k = go (isStep1 (m .control .phase)) refl (to-step1 b (cycl
     go false e on =
         let one : Continues (suc b) m (stretch 1 (cycle m)) = continues-left (left-step (left-start (suc b) m h k) (omega arith) (sym (no-stop m e)) refl refl) in
         let s : suc b - 1 ≡ b = omega arith in
-        continues-and-true (suc b) 1 m (cycle m) (untilStep1 b (cycle m)) one (rw s (on (omega (arith, one .room)) (one .behind)))
+        continues-both (suc b) 1 m (cycle m) (untilStep1 b (cycle m)) one (rw s (on (omega (arith, one .room)) (one .behind)))
 
 -- the loop: u cycles on from m₀ it stands at m
 pub record UntilStep1 (b : ℕ) (m₀ : Machine) (u : ℕ) (m : Machine) : Type 0 where
@@ -178,7 +179,7 @@ continues-wholes (suc most) b p k t r l h i =
           room = omega arith;
           behind = omega arith;
         } in
-        continues-and-true b (duration p) (boundary p k t) next rest one (on (omega arith) (omega arith))
+        continues-both b (duration p) (boundary p k t) next rest one (on (omega arith) (omega arith))
 
 -- ---- where whole instructions may begin
 

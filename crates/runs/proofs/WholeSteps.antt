@@ -17,7 +17,9 @@ use native.Mathlib.Omega.{arith}
 use native.Mathlib.Nat.{zero-add, add-zero}
 use Rattle.plain.specs.Machine as plain
 use Rattle.plain.specs.Trace.{stopMet, duration}
-use Rattle.cycle.specs.Machine.{Machine, counters, mostBytes}
+use Rattle.datapath.specs.Counter.{counters}
+use Rattle.plain.specs.Numbers.{mostBytes}
+use Rattle.cycle.specs.Machine.{Machine}
 use Rattle.cycle.specs.Cycle.{cycle}
 use Rattle.cycle.specs.StopFound.{stopFound}
 use Rattle.cycle.proofs.StopFound.{no-stop}

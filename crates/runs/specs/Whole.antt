@@ -5,7 +5,7 @@ use mathlib.Core.Bool.{Bool, true, false, _&&_}
 use mathlib.Core.List.{List}
 use lib.Dec.{ltb, leb, eqb}
 use Rattle.bits.specs.Choice.{pick}
-use Rattle.datapath.specs.Counter.{ahead, behind}
+use Rattle.datapath.specs.Counter.{ahead, behind, counters}
 use Rattle.memory.specs.declared.Board.{Board}
 use Rattle.memory.specs.Memory.{Memory, memoryOf, wordAt}
 use Rattle.memory.specs.declared.Fetched.{Fetched}
@@ -15,7 +15,8 @@ use Rattle.plain.specs.Machine as plain
 use Rattle.plain.specs.Trace.{stopMet, duration}
 use Rattle.cycle.specs.declared.Control.{Control}
 use Rattle.runs.specs.declared.Between.{Between}
-use Rattle.cycle.specs.Machine.{Machine, machine, counts, mostCycles, counters, mostBytes}
+use Rattle.plain.specs.Numbers.{mostBytes}
+use Rattle.cycle.specs.Machine.{Machine, machine, counts, mostCycles}
 use Rattle.cycle.specs.Cycle.{cycle}
 use Rattle.cycle.specs.StopFound.{isStep1}
 use Rattle.runs.specs.Run.{moreBy, runFrom}

@@ -12,11 +12,13 @@ use cycle::Counts;
 use cycle::Pipe;
 use cycle::cycle::cycle;
 use cycle::stop::is_step1;
+use datapath::counter::COUNTERS;
 use datapath::counter::ahead;
 use datapath::counter::behind;
 use memory::Board;
 use memory::Fetched;
 use memory::fetch;
+use plain::numbers::MOST_BYTES;
 use semantics::Performed;
 use semantics::perform::perform_at;
 use steps::Latches;
@@ -24,11 +26,6 @@ use steps::Phase;
 
 // The cycles of the longest instruction: a load of sixteen registers, the counter among them.
 const LONGEST: u64 = 20;
-
-// As many values as a counter has, and the most bytes that a start accepts.
-const COUNTERS: u32 = 0x4000000;
-
-const MOST_BYTES: u32 = 65536;
 
 // After an instruction that met no stop.
 fn moved(at: Between, r: Performed) -> Between
@@ -119,7 +116,7 @@ fn stands(c: Control, memory: &[u8]) -> bool
         & (c.latches.address == 0)
         & (c.latches.datum == 0)
         & (c.latches.base == 0);
-    let sized = (pipe.pc < COUNTERS) & (c.board.size <= MOST_BYTES);
+    let sized = (pipe.pc < COUNTERS) & (c.board.size <= MOST_BYTES as u32);
     let board = c.board;
     let word = fetch(memory, board, a);
     let ahead1 = fetch(memory, board, ahead(a, 4));

@@ -19,7 +19,7 @@ use Rattle.datapath.specs.Counter.{ahead, counter}
 use Rattle.memory.specs.declared.Fetched.{Fetched}
 use Rattle.memory.specs.declared.Fetched.the-variants.{Word, Blank}
 use Rattle.memory.specs.Memory.{Memory}
-use Rattle.registers.specs.declared.Turn.{Turn}
+use Rattle.registers.specs.declared.Outcome.{Outcome}
 use Rattle.registers.specs.declared.Goes.{Goes}
 use Rattle.registers.specs.declared.Goes.the-variants.{Next, To}
 use Rattle.registers.specs.Registers.{Out, out}
@@ -52,7 +52,7 @@ went-to {f = f} a steps e q =
     ap (λ (n : ℕ). performed 0 f n (steps + 2)) q ∙ ap (λ (x : Goes). performed 0 f (nextAddress a x) (steps + refills x)) (sym e)
 
 -- what is left, put together again
-pub whole : {o : Out} {h : List ℕ} {t : Turn} → Left o h t → out h (t .flags) (t .goes) ≡ o
+pub whole : {o : Out} {h : List ℕ} {t : Outcome} → Left o h t → out h (t .flags) (t .goes) ≡ o
 whole {o} l = rw (l .registers, l .flags, l .goes)
 
 -- an instruction done, from what it left

@@ -8,7 +8,7 @@ use Rattle.word.specs.declared.Block.{Block}
 use Rattle.word.specs.declared.Instruction.{Instruction}
 use Rattle.datapath.specs.Counter.{ahead}
 use Rattle.memory.specs.Memory.{Memory}
-use Rattle.registers.specs.declared.Turn.{Turn}
+use Rattle.registers.specs.declared.Outcome.{Outcome}
 use Rattle.registers.specs.declared.Goes.the-variants.{Next}
 use Rattle.registers.specs.Registers.{Out, out, arrives}
 use Rattle.registers.specs.State.{State}
@@ -25,7 +25,7 @@ abbrev pub effect : Out → Memory → Effect
 effect o mem = record { out = o; memory = mem }
 
 -- what a call leaves in the registers h and says of the rest, each by itself
-pub record Left (o : Out) (h : List ℕ) (t : Turn) : Type 0 where
+pub record Left (o : Out) (h : List ℕ) (t : Outcome) : Type 0 where
   pub registers : h ≡ o .registers
   pub flags : t .flags ≡ o .flags
   pub goes : t .goes ≡ o .goes

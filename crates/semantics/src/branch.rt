@@ -5,7 +5,7 @@ ghost use Rattle.semantics.specs.Branch.{target, linked, branched};
 use datapath::counter::ahead;
 use datapath::counter::r15_word;
 use registers::Goes;
-use registers::Turn;
+use registers::Outcome;
 use registers::put;
 use word::Branch;
 
@@ -23,12 +23,12 @@ fn link(i: Branch, registers: &mut [u32; 15], flags: u32, a: u32)
     }
 }
 
-pub fn branch(i: Branch, registers: &mut [u32; 15], flags: u32, a: u32) -> Turn
+pub fn branch(i: Branch, registers: &mut [u32; 15], flags: u32, a: u32) -> Outcome
     ensures { λ r. ⌜ out (now (registers .exit)) (r .flags) (r .goes) ≡ branched i (now (registers .entry)) flags a ⌝ }
 {
     link(i, registers, flags, a);
     let to = target(i, a);
-    Turn {
+    Outcome {
         flags,
         goes: Goes::To(to),
     }

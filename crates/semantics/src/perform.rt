@@ -29,7 +29,7 @@ use memory::fetch;
 use processing::process;
 use processing::reads_at;
 use registers::Goes;
-use registers::Turn;
+use registers::Outcome;
 use registers::arrive;
 use stops::NO_WORD;
 use stops::OTHER_WORD;
@@ -57,7 +57,7 @@ fn went_on(a: u32, steps: u32, flags: u32) -> Performed
 }
 
 // Done in so many own steps, plus 2 if the counter was stored.
-fn done(a: u32, steps: u32, t: Turn) -> Performed
+fn done(a: u32, steps: u32, t: Outcome) -> Performed
     requires { ⌜ steps ≤ 18 ⌝ }
     ensures { λ r. ⌜ r ≡ performed 0 (t .flags) (nextAddress a (t .goes)) (steps + refills (t .goes)) ⌝ }
 {
@@ -97,7 +97,7 @@ fn perform_processing(i: Processing, registers: &mut [u32; 15], flags: u32, a: u
 }
 
 // `arrive`, with each part of what it leaves told by itself.
-fn arrived(registers: &mut [u32; 15], flags: u32, n: u32, value: u32) -> Turn
+fn arrived(registers: &mut [u32; 15], flags: u32, n: u32, value: u32) -> Outcome
     ensures { λ r. ⌜ Left (arrives (now (registers .entry)) flags n value) (now (registers .exit)) r ⌝ }
 {
     arrive(registers, flags, n, value)
@@ -110,7 +110,7 @@ fn base_then_register(
     flags: u32,
     changed: u32,
     value: u32,
-) -> Turn
+) -> Outcome
     ensures { λ r. ⌜ Left (baseThenRegister i (now (registers .entry)) flags changed value) (now (registers .exit)) r ⌝ }
 {
     single::write_base(i, registers, changed);
@@ -191,7 +191,7 @@ fn loaded(
     lowest: u32,
     memory: &[u8],
     board: Board,
-) -> Turn
+) -> Outcome
     ensures { λ r. ⌜ Left (loads (named list) (now (registers .entry)) flags lowest (memoryOf board (now (memory .entry)))) (now (registers .exit)) r ⌝ }
 {
     block::load(list, registers, flags, lowest, memory, board)
@@ -206,7 +206,7 @@ fn base_then_registers(
     changed: u32,
     lowest: u32,
     board: Board,
-) -> Turn
+) -> Outcome
     ensures { λ r. ⌜ Left (baseThenRegisters i (now (registers .entry)) flags changed lowest (memoryOf board (now (memory .entry)))) (now (registers .exit)) r ⌝ }
 {
     block::write_base(i, registers, changed);

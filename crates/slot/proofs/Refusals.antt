@@ -88,7 +88,7 @@ module _ (words mem : List ℕ) (n : ℕ) where
   plain-refuses : (q : ℕ) → plainNumbers.refusal (plainArray.unpacked words) (length mem) n ≡ suc q → plainRun words mem n ≡ refused (suc q) words mem
   unfolding plainRun plain.run
   plain-refuses q e =
-      rw e (sym (handed-back words mem (called (suc q) 0 (plainArray.packed (plainArray.unpacked words)) mem) (rw (sym e) (plain-number n (unpiped.machine (plainArray.unpacked words) mem) q e))))
+      rw (e, ne-eqb (suc q) 0 (λ z. omega arith)) (sym (handed-back words mem (called (suc q) 0 (plainArray.packed (plainArray.unpacked words)) mem) (rw (sym e) (plain-number n (unpiped.machine (plainArray.unpacked words) mem) q e))))
 
   plain-otherwise : (length mem ≡ at words (plainPlace plain-length) → ⊥) → plainNumbers.refusal (plainArray.unpacked words) (length mem) n ≡ 12
   unfolding plainNumbers.refusal

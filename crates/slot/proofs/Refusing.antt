@@ -161,9 +161,9 @@ module _ (count : ℕ) (m : unpiped.Machine) where
   unfolding plain.run
   plain-accepted e = rw e (go (m .plain .stop) (held (m .plain .stop) (plain-holds-stop e)))
     where
-      go : (q : ℕ) → Other q → Other (plain.repeated q count m .answer)
+      go : (q : ℕ) → Other q → Other (plain.unless q m (plain.runFrom count m) .answer)
       go zero h = plain-runs count m
-      go (suc q) h = h
+      go (suc q) h = rw (ne-eqb (suc q) 0 (λ e. omega arith)) h
 
   pub plain-kept : isRefusal (plain.run count m .answer) ≡ true → plain.run count m ≡ plain.ran (plain.run count m .answer) 0 m
   unfolding plain.run
@@ -171,4 +171,4 @@ module _ (count : ℕ) (m : unpiped.Machine) where
     where
       go : (r : ℕ) → refusal ≡ r → isRefusal (plain.run count m .answer) ≡ true → plain.run count m ≡ plain.ran (plain.run count m .answer) 0 m
       go zero e h = absurd (false≢true (sym (plain-accepted e) ∙ h))
-      go (suc q) e h = rw e
+      go (suc q) e h = rw (e, ne-eqb (suc q) 0 (λ z. omega arith))

@@ -9,7 +9,7 @@ use crate::Latches;
 use crate::Phase;
 use crate::Step;
 use registers::Goes;
-use registers::Turn;
+use registers::Outcome;
 
 fn ends(goes: Goes) -> After
     ensures { λ r. ⌜ r ≡ ends goes ⌝ }
@@ -37,7 +37,7 @@ pub fn still(flags: u32, after: After) -> Step
 }
 
 // The last own step.
-pub fn last(t: Turn) -> Step
+pub fn last(t: Outcome) -> Step
     ensures { λ r. ⌜ r ≡ still (t .flags) (ends (t .goes)) ⌝ }
 {
     let goes = t.goes;

@@ -13,7 +13,7 @@ use memory::Board;
 use memory::bytes::word_base;
 use registers;
 use registers::Goes;
-use registers::Turn;
+use registers::Outcome;
 use word::Block;
 
 // The address of the next word.
@@ -84,7 +84,7 @@ pub fn load(
     address: u32,
     memory: &[u8],
     board: Board,
-) -> Turn
+) -> Outcome
     ensures { λ r. ⌜ out (now (registers .exit)) (r .flags) (r .goes) ≡ loads (named list) (now (registers .entry)) flags address (memoryOf board (now (memory .entry))) ⌝ }
 {
     let mut left = list;
@@ -101,7 +101,7 @@ pub fn load(
         n -= 1;
     }
     if n == 0 {
-        return Turn {
+        return Outcome {
             flags,
             goes: Goes::Next,
         };
