@@ -9,10 +9,11 @@ use Rattle.bits.specs.Choice.{pick}
 use Rattle.cycle.specs.Machine.{Machine}
 use Rattle.refusals.specs.Numbers.{refusal, atOnce}
 use Rattle.refusals.proofs.Refusals.{Granted, granted}
-use Rattle.runs.specs.Run.{Ran, ran, runFrom}
-use Rattle.pipeline.specs.Calls.{unless, run}
+use Rattle.plain.specs.Running.{Ran, ran, unless}
+use Rattle.runs.specs.Run.{runFrom}
+use Rattle.pipeline.specs.Calls.{run}
 
-module _ (m : Machine) (r : Ran) (q : ℕ) where
+module _ (m : Machine) (r : Ran Machine) (q : ℕ) where
   pub ends-by : (q ≡ 0 → ⊥) → ran q 0 m ≡ unless q m r
   ends-by n = rw (ne-eqb q 0 n)
 
@@ -20,7 +21,7 @@ module _ (m : Machine) (r : Ran) (q : ℕ) where
   goes-by z = rw (eq-eqb q 0 z)
 
 -- one number for both
-either : (m : Machine) (r : Ran) (x y : ℕ) → unless (pick (eqb x 0) y x) m r ≡ unless x m (unless y m r)
+either : (m : Machine) (r : Ran Machine) (x y : ℕ) → unless (pick (eqb x 0) y x) m r ≡ unless x m (unless y m r)
 either m r x y = go (eqb x 0) refl
   where
     go : (b : Bool) → eqb x 0 ≡ b → unless (pick b y x) m r ≡ pick b (unless y m r) (ran x 0 m)
@@ -35,7 +36,7 @@ module _ (lent budget : ℕ) (m : Machine) {q : ℕ} (e : q ≡ atOnce lent budg
   pub ended : (q ≡ 0 → ⊥) → ran q 0 m ≡ run lent budget m
   ended n = ends-by m (runFrom budget m) q n ∙ run-is
 
-  pub begun : q ≡ 0 → {r : Ran} → r ≡ runFrom budget m → r ≡ run lent budget m
+  pub begun : q ≡ 0 → {r : Ran Machine} → r ≡ runFrom budget m → r ≡ run lent budget m
   begun z w = w ∙ goes-by m (runFrom budget m) q z ∙ run-is
 
   pub room : q ≡ 0 → Granted budget (m .control)

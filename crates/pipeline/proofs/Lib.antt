@@ -1,6 +1,6 @@
 pub mod Calls
 pub mod Sound
 pub mod Position
-pub mod Lengths
+pub mod Keeps
 pub mod Lists
 pub mod Marked

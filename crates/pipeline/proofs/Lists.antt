@@ -27,13 +27,16 @@ use Rattle.cycle.proofs.StopFound.{no-stop}
 use Rattle.stops.specs.Stops.{Due, no-word, skipped, executes, due}
 use Rattle.stops.proofs.BrokenRules.{rule-alike}
 use Rattle.refusals.specs.Numbers.{stateLater, badWithin, badStep, heldAway, badPhase, bad, refusal}
-use Rattle.pipeline.specs.Calls.{start, unless, run}
-use Rattle.runs.specs.Run.{holding, Ran, ran, oneMore, runFrom}
+use Rattle.pipeline.specs.Calls.{start, run}
+use Rattle.plain.specs.Running as engines
+use Rattle.plain.specs.Running.{Ran, ran, oneMore, unless}
+use Rattle.plain.proofs.Running as loops
+use Rattle.runs.specs.Run.{holding, engine, runFrom}
 use Rattle.pipeline.specs.Term3.{fresh, plainFresh, Begins, sums, Stops, Call, lend, call, Reply, reply, replyOf, Accepted, Refused, Calls, no-calls, accepted, refused, Answers, other-length, too-many, too-far, repeats, stops, spends, AllAnswer, none, more, Never, never-none, never-more}
 use Rattle.pipeline.specs.Term3.{reach, Greatest, Leaves, Further, Follows, Term3}
 use Rattle.runs.specs.Boundary.{boundary, lead}
 use Rattle.pipeline.proofs.Calls.{ends-by}
-use Rattle.pipeline.proofs.Lengths.{reach-alike}
+use Rattle.pipeline.proofs.Keeps.{reach-alike}
 use Rattle.runs.proofs.Flight.{Aloft, Flight}
 use Rattle.runs.proofs.PlainSteps.{duration-flight, flight, Stop, stop-met}
 use Rattle.pipeline.proofs.Position.{Pos, advance, beginning, plainBeginning, started, sums-step, ranged}
@@ -67,19 +70,19 @@ off-step1 : (ph : Phase) → isStep1 ph ≡ false → ph ≡ Step1 → ⊥
 off-step1 ph e h = false≢true (sym e ∙ ap isStep1 h)
 
 -- the cycles rise by those that a run says it used
-abbrev Rises : Machine → Ran → Type 0
+abbrev Rises : Machine → Ran Machine → Type 0
 Rises m r = r .machine .control .counts .cycles ≡ m .control .counts .cycles + r .used
 
 rises-from : (b : ℕ) (m : Machine) → Rises m (runFrom b m)
-unfolding runFrom cycle
+unfolding engines.runs cycle
 rises-from zero m = omega arith
 rises-from (suc b) m = go (stopFound m) (rises-from b (cycle m))
   where
-    go : (q : ℕ) → Rises (cycle m) (runFrom b (cycle m)) → Rises m (elim q [ zero ↦ oneMore (runFrom b (cycle m)) | suc q ↦ ran (suc q) 0 (holding m (suc q)) ])
+    go : (q : ℕ) → Rises (cycle m) (runFrom b (cycle m)) → Rises m (loops.found engine q b m)
     go zero ih = omega (arith, ih)
     go (suc q) ih = omega arith
 
-rises-unless : (q : ℕ) (m : Machine) (r : Ran) → Rises m r → Rises m (unless q m r)
+rises-unless : (q : ℕ) (m : Machine) (r : Ran Machine) → Rises m r → Rises m (unless q m r)
 rises-unless q m r h = go (eqb q 0)
   where
     go : (b : Bool) → Rises m (pick b r (ran q 0 m))
@@ -110,13 +113,13 @@ accepted-or-refused n t c = go (eqb (length (c .memory)) n) refl (decLt 1000000 
 
 module _ (p : plain.Machine) (m₀ : Machine) (r₀ : p .plain .a < counters) (s₀ : p .plain .board .size ≤ mostBytes) where
   -- a run that used its budget, and one that found a stop
-  record Spent (t b : ℕ) (r : Ran) : Type 0 where
+  record Spent (t b : ℕ) (r : Ran Machine) : Type 0 where
     to : ℕ
     sum : to ≡ t + b
     pos : Pos p m₀ r₀ s₀ to
     is : r ≡ ran 0 b (reach m₀ to)
 
-  record Halted (t b : ℕ) (r : Ran) : Type 0 where
+  record Halted (t b : ℕ) (r : Ran Machine) : Type 0 where
     to : ℕ
     u : ℕ
     q : ℕ
@@ -138,7 +141,7 @@ module _ (p : plain.Machine) (m₀ : Machine) (r₀ : p .plain .a < counters) (s
           absurd (let z : stopFound (reach m₀ t) ≡ 0 = no-stop (reach m₀ t) (f .0 .off) in omega arith)
 
   running : (b : ℕ) {t : ℕ} → Pos p m₀ r₀ s₀ t → Spent t b (runFrom b (reach m₀ t)) ⊎ Halted t b (runFrom b (reach m₀ t))
-  unfolding runFrom reach
+  unfolding engines.runs reach
   running zero {t} c = inl (record { to = t; sum = omega arith; pos = c; is = refl })
   running (suc b) {t} c = go (stopFound (reach m₀ t)) refl (λ e. running b (advance p m₀ r₀ s₀ c e))
     where
@@ -146,14 +149,14 @@ module _ (p : plain.Machine) (m₀ : Machine) (r₀ : p .plain .a < counters) (s
           → (stopFound (reach m₀ t) ≡ 0 → Spent (suc t) b (runFrom b (reach m₀ (suc t))) ⊎ Halted (suc t) b (runFrom b (reach m₀ (suc t))))
           → Spent t (suc b) (runFrom (suc b) (reach m₀ t)) ⊎ Halted t (suc b) (runFrom (suc b) (reach m₀ t))
       go zero e ih =
-          rw (e, runFrom)
+          rw (e, engines.runs)
           (⊎-elim
           (λ r. inl (record { to = r .to; sum = omega arith; pos = r .pos; is = ap oneMore (r .is) }))
           (λ r. inr (record { to = r .to; u = suc (r .u); q = r .q; sum = omega arith; less = omega arith; pos = r .pos; at = r .at; stop = r .stop; is = ap oneMore (r .is) }))
           (ih e))
       go (suc q) e ih =
           let f = found c q e in
-          rw (e, runFrom) (inr (record { to = t; u = 0; q = q; sum = omega arith; less = omega arith; pos = c; at = f .0; stop = f .1; is = refl }))
+          rw (e, engines.runs) (inr (record { to = t; u = 0; q = q; sum = omega arith; less = omega arith; pos = c; at = f .0; stop = f .1; is = refl }))
 
   -- ---- sums
 
@@ -216,10 +219,10 @@ module _ (p : plain.Machine) (m₀ : Machine) (r₀ : p .plain .a < counters) (s
   stop-here {t} {q} h = ⊎-elim (λ e. rw e) (λ e. is-stop q (rw (e .1) at (stop-met (trace p (h .pos .k))))) (h .stop)
 
   module _ (n : ℕ) (good : badLength n ≡ false) (same-length : m₀ .control .board .size ≡ n) (no-cycles : m₀ .control .counts .cycles ≡ 0) (no-stop : m₀ .control .stop ≡ 0) where
-    abbrev Reaches : Call → ℕ → ℕ → Ran → ℕ → Type 0
+    abbrev Reaches : Call → ℕ → ℕ → Ran Machine → ℕ → Type 0
     Reaches c t q r t′ = (q′ : ℕ) × Answers p n t q c (replyOf r) t′ q′ × (r .machine ≡ holding (reach m₀ t′) q′) × Here t′ q′
 
-    abbrev Result : Call → ℕ → ℕ → Ran → Type 0
+    abbrev Result : Call → ℕ → ℕ → Ran Machine → Type 0
     Result c t q r = (t′ : ℕ) × (t′ ≡ t + r .used) × Reaches c t q r t′
 
     -- 11 doesn't come up, whatever is lent
@@ -254,7 +257,7 @@ module _ (p : plain.Machine) (m₀ : Machine) (r₀ : p .plain .a < counters) (s
         phase-fine Refill2 e = refl
         phase-fine (Later k) e = step-fine k (due (reach m₀ t .control .pipe .ix) (reach m₀ t .control .flags)) e
 
-    ran-on : (c : Call) (t : ℕ) {r : Ran} → Accepted n t c → Spent t (c .budget) r ⊎ Halted t (c .budget) r → Result c t 0 r
+    ran-on : (c : Call) (t : ℕ) {r : Ran Machine} → Accepted n t c → Spent t (c .budget) r ⊎ Halted t (c .budget) r → Result c t 0 r
     ran-on c t a (inl x) =
         rw (x .is) (
           x .to,
@@ -358,11 +361,11 @@ module _ (p : plain.Machine) (m₀ : Machine) (r₀ : p .plain .a < counters) (s
         (q₂, more x y, h₂)
     all {m} {m′} {t} {t′} q h (refused {c = c} x k) =
         let b = one-refused c t q h x in
-        let (q₂, y, h₂) = all q (ap (λ (r : Ran). lend (r .machine) (m .memory)) (b .is) ∙ h .0, h .1) k in
+        let (q₂, y, h₂) = all q (ap (λ (r : Ran Machine). lend (r .machine) (m .memory)) (b .is) ∙ h .0, h .1) k in
         (q₂, more (subst (λ r. Answers p n t q c (replyOf r) t q) (sym (b .is)) (b .answers)) y, h₂)
 
     further : {m : Machine} {t q : ℕ} → At m t q → (c : Call) → Further n t m c
-    further {m} {t} {q} h c = record { kept = λ x. ap (λ (r : Ran). r .machine) (one-refused c t q h x .is); rises = rises (length (c .memory)) (c .budget) (lend m (c .memory)) }
+    further {m} {t} {q} h c = record { kept = λ x. ap (λ (r : Ran Machine). r .machine) (one-refused c t q h x .is); rises = rises (length (c .memory)) (c .budget) (lend m (c .memory)) }
 
     -- 11 doesn't come up
     answers-never : {t q t′ q′ : ℕ} {c : Call} {r : Reply} → Answers p n t q c r t′ q′ → Stop q → (r .answer ≡ 11 → ⊥) × Stop q′

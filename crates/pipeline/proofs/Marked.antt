@@ -22,14 +22,14 @@ use Rattle.cycle.specs.Cycle.{ownOf, cycle}
 use Rattle.cycle.specs.StopFound.{stopFound}
 use Rattle.refusals.specs.Numbers.{bad, refusal}
 use Rattle.pipeline.specs.Calls.{start, run}
-use Rattle.runs.specs.Run.{runFrom}
+use Rattle.plain.specs.Running.{runs}
 use Rattle.pipeline.specs.Marked.{Report, Marked}
 use Rattle.datapath.proofs.Marked as datapath
 use Rattle.stops.proofs.Marked as stopping
 use Rattle.semantics.proofs.Marked as semantics
 
 report : Report
-unfolding bits.field bits.bit reader.readOf condition.passes shifter.constant shifter.ror shifter.rotated alu.sum alu.difference alu.operate alu.flagsOf counter.ahead counter.counter counter.r15Word bytes.holdsWord bytes.wordIn memory.place memory.limit memory.wordAt registers.register registers.put registers.arrives processing.operandOf processing.computedOf processing.flagsAfter processing.stored processing.processed branch.branched effect.effectOf rules.ruleBroken moves.movesOf stops.due stops.movedStop stops.stopOf stops.stopFor plain.startAnswer counter.behind first later ownOf cycle stopFound bad refusal start runFrom run
+unfolding bits.field bits.bit reader.readOf condition.passes shifter.constant shifter.ror shifter.rotated alu.sum alu.difference alu.operate alu.flagsOf counter.ahead counter.counter counter.r15Word bytes.holdsWord bytes.wordIn memory.place memory.limit memory.wordAt registers.register registers.put registers.arrives processing.operandOf processing.computedOf processing.flagsAfter processing.stored processing.processed branch.branched effect.effectOf rules.ruleBroken moves.movesOf stops.due stops.movedStop stops.stopOf stops.stopFor plain.startAnswer counter.behind first later ownOf cycle stopFound bad refusal start runs run
 report = record { answer = refl; pc = refl; cycles = refl; retired = refl; flags = refl; registers = refl }
 
 pub marked : Marked

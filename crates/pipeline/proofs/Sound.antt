@@ -6,23 +6,18 @@ use mathlib.Core.List.{List, [], _∷_}
 use mathlib.Core.Bool.{Bool, true, false, not, false≢true}
 use native.Mathlib.Nat.{mod-eq-of-lt}
 use native.Mathlib.Omega.{arith}
-use lib.ListN.{length, drop, set}
+use lib.ListN.{length, drop}
 use lib.Dec.{ltb, eqb}
 use borrow.Author.Tests.{not-false, ltb-true, lt-ltb}
 use Rattle.bits.specs.Choice.{pick}
 use Rattle.bits.specs.Bits.{field}
-use Rattle.bits.proofs.Fields.{field-lt}
-use Rattle.word.specs.declared.Processing.{Processing}
 use Rattle.word.specs.declared.Single.{Single}
 use Rattle.word.specs.declared.Block.{Block}
 use Rattle.word.specs.declared.Instruction.{Instruction}
 use Rattle.word.specs.Reader.{readOf, isOther}
 use Rattle.condition.specs.Condition.{passes}
 use Rattle.datapath.specs.Counter.{ahead, behind, counter, counters}
-use Rattle.datapath.specs.Alu.{flagsOf, storesResult}
 use Rattle.datapath.proofs.Counters.{ahead-lt, ahead-behind, ahead-word, counter-lt, counter-word}
-use Rattle.datapath.proofs.Flags.{flags-lt}
-use Rattle.datapath.specs.declared.Computed.{Computed}
 use Rattle.memory.specs.declared.Board.{Board}
 use Rattle.memory.specs.Memory.{Memory, memoryOf, limit}
 use Rattle.memory.specs.declared.Fetched.{Fetched}
@@ -30,8 +25,8 @@ use Rattle.memory.specs.declared.Fetched.the-variants.{Word, Blank}
 use Rattle.registers.specs.declared.Goes.{Goes}
 use Rattle.registers.specs.declared.Goes.the-variants.{Next, To}
 use Rattle.registers.specs.State.{State, state}
-use Rattle.registers.specs.Registers.{out, arrives}
-use Rattle.processing.specs.Processing.{processed, stored, flagsAfter, computedOf, operandOf, byRegister?}
+use Rattle.registers.specs.Registers.{arrives}
+use Rattle.processing.specs.Processing.{processed, byRegister?}
 use Rattle.transfer.specs.Single as single
 use Rattle.transfer.specs.Block as block
 use Rattle.semantics.specs.Branch.{branched}
@@ -57,6 +52,7 @@ use Rattle.cycle.specs.Cycle.{cycle, firstDue, laterOf, ownOf, fetches, pipeAft
 use Rattle.cycle.specs.StopFound.{isStep1, stopFound}
 use Rattle.refusals.specs.Numbers.{leftToMove, stateLater, badWithin, badStep, badPhase}
 use Rattle.steps.proofs.Both.{or-false}
+use Rattle.pipeline.proofs.Keeps.{own-keeps}
 use Rattle.runs.proofs.Instruction.{extra, own-steps, Quiet, quietly, names-some, drop-count}
 
 -- what the test says of step j + 2 of an instruction
@@ -305,98 +301,6 @@ module _ (n : Board) (short : n .size ≤ mostBytes) where
             (later-ok (readOf w) k g f pc l _ (to-mid (readOf w) k (core (Later k) (Word w)) b)) i fl ad bd
         go false ps b = absurd (false≢true (sym b))
 
--- ---- flags stay below 16
-
-arrives-flags : (g : List ℕ) (f n v : ℕ) → f < 16 → arrives g f n v .flags < 16
-unfolding arrives
-arrives-flags g f n v h = go (ltb n 15)
-  where
-    go : (b : Bool) → pick b (out (set g n v) f Next) (out g f (To v)) .flags < 16
-    go true = h
-    go false = h
-
-flags-after : (i : Processing) (f : ℕ) (r : Computed) → f < 16 → flagsAfter i f r < 16
-unfolding flagsAfter
-flags-after i f r h = go (i .s) (ltb (i .rd) 15)
-  where
-    go : (b d : Bool) → pick b (pick d (flagsOf r) (field (r .value) 28 4)) f < 16
-    go true true = flags-lt r
-    go true false = field-lt (r .value) 28 4
-    go false d = h
-
-processed-flags : (i : Processing) (g : List ℕ) (f pc : ℕ) → f < 16 → processed i g f pc .flags < 16
-unfolding processed stored
-processed-flags i g f pc h = go (storesResult (i .operation)) (computedOf i g f pc (operandOf (i .operand) g f pc))
-  where
-    go : (b : Bool) (r : Computed) → pick b (arrives g (flagsAfter i f r) (i .rd) (r .value)) (out g (flagsAfter i f r) Next) .flags < 16
-    go true r = arrives-flags g (flagsAfter i f r) (i .rd) (r .value) (flags-after i f r h)
-    go false r = flags-after i f r h
-
-first-flags : (i : Instruction) (g : List ℕ) (f pc : ℕ) (mem : Memory) → f < 16 → first i g f pc mem .step .flags < 16
-unfolding first branched
-first-flags (Instruction.Processing i) g f pc mem h = go (byRegister? (i .operand))
-  where
-    go : (b : Bool) → pick b (own g (still f (More (Later 0))) mem) (last (processed i g f pc) mem) .step .flags < 16
-    go true = h
-    go false = processed-flags i g f pc h
-first-flags (Instruction.Single i) g f pc mem h = h
-first-flags (Instruction.Block i) g f pc mem h = h
-first-flags (Instruction.Branch i) g f pc mem h = h
-first-flags (Instruction.Other w) g f pc mem h = h
-
-load-step-flags : (k : ℕ) (r g : List ℕ) (f : ℕ) (l : Latches) (mem : Memory) → f < 16 → loadStep k r g f l mem .step .flags < 16
-unfolding loadStep
-load-step-flags k [] g f l mem h = h
-load-step-flags k (x ∷ []) g f l mem h = arrives-flags g f x (l .datum) h
-load-step-flags k (x ∷ (y ∷ ys)) g f l mem h = h
-
-store-step-flags : (k : ℕ) (r g : List ℕ) (f pc : ℕ) (l : Latches) (mem : Memory) → f < 16 → storeStep k r g f pc l mem .step .flags < 16
-unfolding storeStep
-store-step-flags k [] g f pc l mem h = h
-store-step-flags k (x ∷ []) g f pc l mem h = h
-store-step-flags k (x ∷ (y ∷ ys)) g f pc l mem h = h
-
-single-flags : (i : Single) (k : ℕ) (g : List ℕ) (f : ℕ) (l : Latches) (mem : Memory) → f < 16 → loadLater i k g f l mem .step .flags < 16
-unfolding loadLater
-single-flags i zero g f l mem h = h
-single-flags i (suc k) g f l mem h = arrives-flags g f (i .rd) (l .datum) h
-
-block-flags : (i : Block) (k : ℕ) (g : List ℕ) (f pc : ℕ) (l : Latches) (mem : Memory) (b : Bool) → f < 16
-    → pick b (blockLoadLater i k g f l mem) (blockStoreLater i k g f pc l mem) .step .flags < 16
-unfolding blockLoadLater blockStoreLater
-block-flags i zero g f pc l mem true h = h
-block-flags i zero g f pc l mem false h = store-step-flags 0 (block.named (i .list)) _ f pc l mem h
-block-flags i (suc k) g f pc l mem true h = load-step-flags k (drop k (block.named (i .list))) g f l mem h
-block-flags i (suc k) g f pc l mem false h = store-step-flags (suc k) (drop (suc k) (block.named (i .list))) g f pc l mem h
-
-later-flags : (i : Instruction) (k : ℕ) (g : List ℕ) (f pc : ℕ) (l : Latches) (mem : Memory) → f < 16 → later i k g f pc l mem .step .flags < 16
-unfolding later
-later-flags (Instruction.Processing i) k g f pc l mem h = processed-flags i g f pc h
-later-flags (Instruction.Single i) k g f pc l mem h = go (i .l)
-  where
-    go : (b : Bool) → pick b (loadLater i k g f l mem) (storeLater i g f l mem) .step .flags < 16
-    go true = single-flags i k g f l mem h
-    go false = unfold storeLater in h
-later-flags (Instruction.Block i) k g f pc l mem h = block-flags i k g f pc l mem (i .l) h
-later-flags (Instruction.Branch i) k g f pc l mem h = h
-later-flags (Instruction.Other w) k g f pc l mem h = h
-
-own-flags : (ph : Phase) (m : Machine) → m .control .flags < 16 → ownOf ph m .step .flags < 16
-unfolding ownOf
-own-flags Refill1 m h = h
-own-flags Refill2 m h = h
-own-flags Step1 m h = go (due (m .control .pipe .ix) (m .control .flags))
-  where
-    go : (d : Due) → firstDue d m .step .flags < 16
-    go no-word = h
-    go skipped = h
-    go (executes i) = first-flags i (m .registers) (m .control .flags) (m .control .pipe .pc) (lent m) h
-own-flags (Later k) m h = go (m .control .pipe .ix)
-  where
-    go : (x : Fetched) → laterOf k x m .step .flags < 16
-    go Blank = h
-    go (Word w) = later-flags (readOf w) k (m .registers) (m .control .flags) (m .control .pipe .pc) (m .control .latches) (lent m) h
-
 -- ---- the counter and the counts
 
 -- a counter value
@@ -440,7 +344,7 @@ cycle-sound m s z =
       short = s .short;
       range = pc .0;
       aligned = pc .1;
-      flags = own-flags (c .phase) m (s .flags);
+      flags = own-keeps (c .phase) m .2 (s .flags);
       counts = retired-counts e (c .counts .retired) (c .counts .cycles) (s .counts);
       fine = own-fine (c .board) (s .short) (m .registers) (c .flags) (c .pipe .pc) (c .pipe .ir1) (c .pipe .ir2) (c .latches) (c .counts) (c .stop) (m .memory) (c .phase) (c .pipe .ix)
           (s .fine) z (s .range) (cycle m) refl refl refl refl;

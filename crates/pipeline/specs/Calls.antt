@@ -3,17 +3,17 @@ use Prim.Native.Nat.{ℕ}
 use mathlib.Core.List.{List}
 use lib.Dec.{eqb}
 use lib.ListN.{length, replicate}
-use Rattle.bits.specs.Choice as choice
 use Rattle.bits.specs.Choice.{pick}
 use Rattle.memory.specs.declared.Fetched.the-variants.{Blank}
 use Rattle.plain.specs.Numbers.{startAnswer}
+use Rattle.plain.specs.Running.{Ran, unless}
 use Rattle.steps.specs.declared.Phase.the-variants.{Step1}
 use Rattle.steps.specs.Steps.{idle}
 use Rattle.cycle.specs.declared.Control.{Control}
 use Rattle.cycle.specs.Machine.{Machine, pipe, counts}
 use Rattle.cycle.specs.Fresh.{freshControl}
 use Rattle.refusals.specs.Numbers.{refusal}
-use Rattle.runs.specs.Run.{Ran, ran, runFrom}
+use Rattle.runs.specs.Run.{runFrom}
 use Rattle.pipeline.specs.declared.Core.{Core}
 
 abbrev pub core : List ℕ → Control → Core
@@ -42,10 +42,6 @@ start g flags entry mem =
     let answer = startAnswer (length mem) entry flags in
     record { answer = answer; core = pick (eqb answer 0) (core g (freshControl flags entry (record { size = length mem }))) zeroed }
 
--- a call that ends with a number before its first cycle hands everything back unchanged, with 0 cycles; 0 is no such number
-abbrev pub unless : ℕ → Machine → Ran → Ran
-unless number m goes = choice.unless number (λ q. ran q 0 m) goes
-
 -- a run that is lent so many bytes, with a budget: refused, or a stop held is repeated, or it goes on
-unfoldable pub run : ℕ → ℕ → Machine → Ran
+unfoldable pub run : ℕ → ℕ → Machine → Ran Machine
 run lent budget m = unless (refusal lent budget m) m (unless (m .control .stop) m (runFrom budget m))

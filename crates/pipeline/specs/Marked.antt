@@ -6,8 +6,8 @@ use lib.ListN.{length, replicate}
 use Rattle.datapath.specs.Marked as datapath
 use Rattle.stops.specs.Marked as stops
 use Rattle.semantics.specs.Marked as semantics
-use Rattle.cycle.specs.Machine.{machine}
-use Rattle.runs.specs.Run.{Ran}
+use Rattle.cycle.specs.Machine.{Machine, machine}
+use Rattle.plain.specs.Running.{Ran}
 use Rattle.pipeline.specs.Calls.{start, run}
 
 -- words E3A00005 E2500001 1AFFFFFD EF000000
@@ -17,7 +17,7 @@ image =
     0xFD ∷ 0xFF ∷ 0xFF ∷ 0x1A ∷ 0x00 ∷ 0x00 ∷ 0x00 ∷ 0xEF ∷ []
 
 -- started at 0 with zero registers and flags, budget 64
-abbrev pub reported : Ran
+abbrev pub reported : Ran Machine
 reported =
     let core = start (replicate 15 0) 0 0 image .core in
     run (length image) 64 (machine (core .registers) (core .control) image)

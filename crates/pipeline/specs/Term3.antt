@@ -15,7 +15,8 @@ use Rattle.refusals.specs.Numbers.{bad}
 use Rattle.cycle.specs.Cycle.{cycle}
 use Rattle.runs.specs.Boundary.{boundary, lead}
 use Rattle.pipeline.specs.Calls.{zeroed, start, run}
-use Rattle.runs.specs.Run.{holding, Ran}
+use Rattle.plain.specs.Running.{Ran}
+use Rattle.runs.specs.Run.{holding}
 
 -- ---- the two machines from one start
 
@@ -61,7 +62,7 @@ abbrev pub lend : Machine → List ℕ → Machine
 lend m mem = machine (m .registers) (m .control) mem
 
 -- the call on the core of m: the memory is the call's and not m's
-abbrev pub call : Call → Machine → Ran
+abbrev pub call : Call → Machine → Ran Machine
 call c m = run (length (c .memory)) (c .budget) (lend m (c .memory))
 
 pub record Reply : Type 0 where
@@ -71,7 +72,7 @@ pub record Reply : Type 0 where
 abbrev pub reply : ℕ → ℕ → Reply
 reply answer used = record { answer = answer; used = used }
 
-abbrev pub replyOf : Ran → Reply
+abbrev pub replyOf : Ran Machine → Reply
 replyOf r = reply (r .answer) (r .used)
 
 -- a call that the rules accept at total t, after a start with n bytes, and one that they refuse

@@ -3,7 +3,7 @@ ghost use mathlib.Core.Path.{_≡_};
 ghost use lib.ListN.{length};
 ghost use Rattle.cycle.specs.Machine.{machine};
 ghost use Rattle.pipeline.specs.Calls.{zeroed, start, run};
-ghost use Rattle.runs.specs.Run.{ran};
+ghost use Rattle.plain.specs.Running.{ran};
 use cycle::Control;
 use cycle::fresh::fresh;
 use memory::Board;

@@ -1,5 +1,5 @@
 pub mod Accepted
-pub mod Loop
+pub mod Running
 pub mod Entry
 pub mod Traces
 pub mod Refusals

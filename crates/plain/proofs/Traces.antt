@@ -12,8 +12,9 @@ use borrow.Author.Tests.{eqb-false}
 use Rattle.bits.specs.Choice.{pick}
 use Rattle.plain.specs.Machine.{Machine, performedAt, step}
 use Rattle.plain.specs.Numbers.{refusal}
-use Rattle.plain.specs.Run.{Ran, ran, oneMore, runFrom, run}
-use Rattle.plain.proofs.Loop.{met}
+use Rattle.plain.specs.Running.{Ran, ran, oneMore, runs}
+use Rattle.plain.specs.Run.{engine, runFrom, run}
+use Rattle.plain.proofs.Running.{found}
 use Rattle.plain.specs.Trace.{trace, stopMet, Does, Halted, Traced}
 
 -- a step, and then k more
@@ -42,38 +43,38 @@ does-first m k e d (suc j) h = ap stopMet (sym (trace-front m j)) ∙ d j (omega
 -- ---- the loop
 
 -- spent, or stopped after k of n
-abbrev Spent : ℕ → Machine → Ran → Type 0
+abbrev Spent : ℕ → Machine → Ran Machine → Type 0
 Spent n m r = (r ≡ ran 0 n (trace m n)) × Does m n
 
-record Found (n : ℕ) (m : Machine) (r : Ran) : Type 0 where
-  less : r .done < n
-  does : Does m (r .done)
-  stop : stopMet (trace m (r .done)) ≡ r .answer
-  leaves : r .machine ≡ trace m (suc (r .done))
+record Found (n : ℕ) (m : Machine) (r : Ran Machine) : Type 0 where
+  less : r .used < n
+  does : Does m (r .used)
+  stop : stopMet (trace m (r .used)) ≡ r .answer
+  leaves : r .machine ≡ trace m (suc (r .used))
 
 from-spent : (n : ℕ) (m : Machine) → runFrom n m .answer ≡ 0 → Spent n m (runFrom n m)
-unfolding runFrom trace
+unfolding runs trace
 from-spent zero m e = (refl, λ j h. absurd (omega arith))
 from-spent (suc n) m e = go (step m .plain .stop) refl (from-spent n (step m)) e
   where
     go : (q : ℕ) → step m .plain .stop ≡ q → (runFrom n (step m) .answer ≡ 0 → Spent n (step m) (runFrom n (step m)))
-        → met q n (step m) .answer ≡ 0
-        → Spent (suc n) m (met q n (step m))
+        → found engine q n m .answer ≡ 0
+        → Spent (suc n) m (found engine q n m)
     go zero z ih e = (ap oneMore (ih e .0) ∙ ap (ran 0 (suc n)) (trace-front m n), does-first m n z (ih e .1))
     go (suc q) z ih e = absurd (omega arith)
 
 from-stopped : (n : ℕ) (m : Machine) → m .plain .stop ≡ 0 → runFrom n m .machine .plain .stop ≢ 0 → Found n m (runFrom n m)
-unfolding runFrom trace
+unfolding runs trace
 from-stopped zero m z e = absurd (e z)
 from-stopped (suc n) m z e = go (step m .plain .stop) refl (from-stopped n (step m)) e
   where
     go : (q : ℕ) → step m .plain .stop ≡ q
         → (step m .plain .stop ≡ 0 → runFrom n (step m) .machine .plain .stop ≢ 0 → Found n (step m) (runFrom n (step m)))
-        → met q n (step m) .machine .plain .stop ≢ 0
-        → Found (suc n) m (met q n (step m))
+        → found engine q n m .machine .plain .stop ≢ 0
+        → Found (suc n) m (found engine q n m)
     go zero z ih e =
         let f = ih z e in
-        let k = runFrom n (step m) .done in
+        let k = runFrom n (step m) .used in
         record {
           less = omega (arith, f .less);
           does = does-first m k z (f .does);
@@ -89,7 +90,7 @@ module _ (n : ℕ) (m : Machine) where
   abbrev refused : ℕ
   refused = refusal (m .plain) (length (m .memory)) n
 
-  abbrev held : Bool → Ran
+  abbrev held : Bool → Ran Machine
   held b = pick b (runFrom n m) (ran (m .plain .stop) 0 m)
 
   spent : run n m .answer ≡ 0 → (run n m ≡ ran 0 n (trace m n)) × Does m n

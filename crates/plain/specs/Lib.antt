@@ -1,6 +1,8 @@
 pub mod Machine
 pub mod Lent
+pub mod Refused
 pub mod Numbers
+pub mod Running
 pub mod Run
 pub mod Starts
 pub mod Trace

@@ -1,11 +1,13 @@
--- Numbers 1 to 4, 11 and 12, as far as the plain machine has them (paper 01, the two lists of numbers and "Plain machine").
+-- What a start or a run of the plain machine refuses (paper 01, the two lists of numbers and "Plain machine").
 use Prim.Native.Nat.{ℕ, _%_}
 use mathlib.Core.Bool.{Bool, not, _||_, _&&_}
 use lib.Dec.{ltb, leb, eqb}
 use lib.ListN.{length}
 use Rattle.datapath.specs.Counter.{counters}
 use Rattle.bits.specs.Choice.{pick}
+use Rattle.stops.specs.Numbers.{noWord, fetchedWord}
 use Rattle.plain.specs.declared.Plain.{Plain}
+use Rattle.plain.specs.Refused.{lengthRefused, entryRefused, budgetRefused, flagsRefused, recordRefused, otherMemory}
 
 -- the smallest and the largest memory, in bytes
 abbrev pub leastBytes : ℕ
@@ -32,11 +34,11 @@ badFlags flags = ltb 15 flags
 
 -- the number that a start of either engine answers, 0 where it is accepted
 unfoldable pub startAnswer : ℕ → ℕ → ℕ → ℕ
-startAnswer n entry flags = pick (badLength n) 1 (pick (badEntry entry n) 2 (pick (badFlags flags) 4 0))
+startAnswer n entry flags = pick (badLength n) lengthRefused (pick (badEntry entry n) entryRefused (pick (badFlags flags) flagsRefused 0))
 
 -- a stop that a record can hold
 abbrev pub isStop : ℕ → Bool
-isStop stop = eqb stop 0 || (leb 21 stop && leb stop 25)
+isStop stop = eqb stop 0 || (leb noWord stop && leb stop fetchedWord)
 
 -- an address that a counter can hold
 abbrev pub isCounter : ℕ → Bool
@@ -52,4 +54,4 @@ badBudget n = ltb mostBudget n
 
 -- what a run of this record refuses with, or 0: 12, 11, 3
 unfoldable pub refusal : Plain → ℕ → ℕ → ℕ
-refusal p lent budget = pick (not (eqb lent (p .board .size))) 12 (pick (bad p) 11 (pick (badBudget budget) 3 0))
+refusal p lent budget = pick (not (eqb lent (p .board .size))) otherMemory (pick (bad p) recordRefused (pick (badBudget budget) budgetRefused 0))

@@ -3,7 +3,8 @@ use Prim.Native.Nat.{ℕ, zero, suc, _+_, _<_}
 use mathlib.Core.Path.{_≡_}
 use mathlib.Core.Logic.{_≢_}
 use Rattle.plain.specs.Machine.{Machine, step, performedAt}
-use Rattle.plain.specs.Run.{ran, run}
+use Rattle.plain.specs.Running.{ran}
+use Rattle.plain.specs.Run.{run}
 
 unfoldable pub trace : Machine → ℕ → Machine
 trace m zero = m
@@ -38,6 +39,6 @@ pub record Traced : Type 0 where
   -- a run that is neither refused nor stopped does its count, and stands there
   pub spent : (n : ℕ) (m : Machine) → run n m .answer ≡ 0 → (run n m ≡ ran 0 n (trace m n)) × Does m n
   -- one of a machine that holds no stop and answers one did the instructions before it
-  pub stopped : (n : ℕ) (m : Machine) → m .plain .stop ≡ 0 → run n m .machine .plain .stop ≢ 0 → Halted n m (run n m .done)
+  pub stopped : (n : ℕ) (m : Machine) → m .plain .stop ≡ 0 → run n m .machine .plain .stop ≢ 0 → Halted n m (run n m .used)
   -- and a list of runs goes on from there
   pub goes-on : (m : Machine) (j k : ℕ) → trace (trace m j) k ≡ trace m (j + k)

@@ -1,9 +1,11 @@
 // The plain machine (the paper's term): one instruction after the other, with no pipeline.
 ghost use mathlib.Core.Path.{_≡_};
 ghost use Rattle.plain.specs.Machine.{machine, step};
-ghost use Rattle.plain.specs.Run.{zeroed, start, ran, run};
+ghost use Rattle.plain.specs.Run.{zeroed, start, run};
+ghost use Rattle.plain.specs.Running.{ran};
 
 pub mod numbers;
+pub mod refused;
 mod run;
 mod step;
 

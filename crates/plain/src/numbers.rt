@@ -1,8 +1,16 @@
-// Numbers 1 to 4, 11 and 12, as far as the plain machine has them; the core's start and run test the same.
+// What a start or a run of the plain machine refuses; the core's start and run test the same.
 ghost use mathlib.Core.Path.{_≡_};
 ghost use Rattle.plain.specs.Numbers.{badLength, badEntry, badFlags, startAnswer, isStop, isCounter, bad, badBudget, refusal};
 use crate::Plain;
+use crate::refused::BUDGET_REFUSED;
+use crate::refused::ENTRY_REFUSED;
+use crate::refused::FLAGS_REFUSED;
+use crate::refused::LENGTH_REFUSED;
+use crate::refused::OTHER_MEMORY;
+use crate::refused::RECORD_REFUSED;
 use datapath::counter::COUNTERS;
+use stops::FETCHED_WORD;
+use stops::NO_WORD;
 
 // The smallest and the largest memory, in bytes.
 pub const LEAST_BYTES: usize = 16;
@@ -38,19 +46,23 @@ pub fn start_answer(length: usize, entry: u32, flags: u32) -> u32
     ensures { λ r. ⌜ r ≡ startAnswer length entry flags ⌝ }
 {
     if length_is_bad(length) {
-        return 1;
+        return LENGTH_REFUSED;
     }
     if entry_is_bad(entry, length) {
-        return 2;
+        return ENTRY_REFUSED;
     }
-    if flags_are_bad(flags) { 4 } else { 0 }
+    if flags_are_bad(flags) {
+        FLAGS_REFUSED
+    } else {
+        0
+    }
 }
 
 // A stop that a record can hold.
 pub fn is_stop(stop: u32) -> bool
     ensures { λ r. ⌜ r ≡ isStop stop ⌝ }
 {
-    (stop == 0) | ((21 <= stop) & (stop <= 25))
+    (stop == 0) | ((NO_WORD <= stop) & (stop <= FETCHED_WORD))
 }
 
 // An address that a counter can hold.
@@ -82,10 +94,14 @@ pub fn refusal(p: Plain, lent: usize, budget: u64) -> u32
     ensures { λ r. ⌜ r ≡ refusal p lent budget ⌝ }
 {
     if lent != p.board.size as usize {
-        return 12;
+        return OTHER_MEMORY;
     }
     if is_bad(p) {
-        return 11;
+        return RECORD_REFUSED;
     }
-    if budget_is_bad(budget) { 3 } else { 0 }
+    if budget_is_bad(budget) {
+        BUDGET_REFUSED
+    } else {
+        0
+    }
 }

@@ -1,7 +1,8 @@
 // The run's loop: registers and memory stay where they are lent.
 ghost use mathlib.Core.Path.{_≡_};
 ghost use Rattle.plain.specs.Lent.{lent};
-ghost use Rattle.plain.specs.Run.{ran, runFrom};
+ghost use Rattle.plain.specs.Running.{ran};
+ghost use Rattle.plain.specs.Run.{runFrom};
 use crate::At;
 use crate::step::advance;
 use memory::Board;
@@ -37,7 +38,7 @@ pub fn run_from(
     }
     Ended {
         answer: 0,
-        done: count,
+        done,
         at: here,
     }
 }

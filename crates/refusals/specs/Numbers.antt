@@ -13,6 +13,7 @@ use Rattle.semantics.specs.Duration.{ownSteps}
 use Rattle.stops.specs.Rules.{ruleBroken}
 use Rattle.stops.specs.Moves.{span}
 use Rattle.stops.specs.Stops.{Due, no-word, skipped, executes, due, outside}
+use Rattle.plain.specs.Refused.{budgetRefused, recordRefused, otherMemory, tooManyCycles}
 use Rattle.plain.specs.Numbers.{badLength, badFlags, badBudget, isCounter, isStop}
 use Rattle.steps.specs.declared.Phase.{Phase}
 use Rattle.steps.specs.declared.Phase.the-variants.{Step1, Refill1, Refill2, Later}
@@ -74,10 +75,10 @@ bad m =
 -- what a run that is lent so many bytes refuses with, or 0: 12, 11, 3, 13
 unfoldable pub refusal : ℕ → ℕ → Machine → ℕ
 refusal lent budget m =
-    pick (not (eqb lent (m .control .board .size))) 12
-    (pick (bad m) 11
-    (pick (badBudget budget) 3
-    (pick (ltb mostCycles (m .control .counts .cycles + budget)) 13
+    pick (not (eqb lent (m .control .board .size))) otherMemory
+    (pick (bad m) recordRefused
+    (pick (badBudget budget) budgetRefused
+    (pick (ltb mostCycles (m .control .counts .cycles + budget)) tooManyCycles
     0)))
 
 -- the number with which a call ends before its first cycle, or 0: a refusal, else the stop held

@@ -21,6 +21,10 @@ use plain::numbers::flags_are_bad;
 use plain::numbers::is_counter;
 use plain::numbers::is_stop;
 use plain::numbers::length_is_bad;
+use plain::refused::BUDGET_REFUSED;
+use plain::refused::OTHER_MEMORY;
+use plain::refused::RECORD_REFUSED;
+use plain::refused::TOO_MANY_CYCLES;
 use semantics::own_steps::own_steps;
 use steps::Phase;
 use stops::rules::rule_broken;
@@ -142,16 +146,16 @@ fn refusal(lent: usize, budget: u64, c: Control, registers: &[u32; 15]) -> u32
     ensures { λ r. ⌜ ((mem : List ℕ) → r ≡ refusal lent budget (machine (now (registers .entry)) c mem)) ⌝ }
 {
     if lent != c.board.size as usize {
-        return 12;
+        return OTHER_MEMORY;
     }
     if bad(registers, c) {
-        return 11;
+        return RECORD_REFUSED;
     }
     if budget_is_bad(budget) {
-        return 3;
+        return BUDGET_REFUSED;
     }
     if MOST_CYCLES < c.counts.cycles + budget {
-        13
+        TOO_MANY_CYCLES
     } else {
         0
     }

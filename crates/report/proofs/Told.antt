@@ -4,9 +4,9 @@ use mathlib.Core.List.{List, _++_}
 use Prim.Native.Nat.{ℕ}
 use borrow.Author.Tests.{eq-eqb, ne-eqb}
 use lib.ListN.{length}
-use Rattle.cycle.specs.Machine.{machine}
+use Rattle.cycle.specs.Machine.{Machine, machine}
 use Rattle.pipeline.specs.Calls.{Begun, run}
-use Rattle.runs.specs.Run.{Ran}
+use Rattle.plain.specs.Running.{Ran}
 use Rattle.report.specs.Report.{answerLine, coreLines, reportText, imageAfter, budget, begun, finished}
 
 module _ (image : List ℕ) (b : Begun) (is : b ≡ begun image) where
@@ -14,7 +14,7 @@ module _ (image : List ℕ) (b : Begun) (is : b ≡ begun image) where
   unfolding reportText imageAfter
   refused h = rw (← is, ne-eqb (b .answer) 0 h) (refl, refl)
 
-  pub accepted : b .answer ≡ 0 → (r : Ran) → r ≡ run (length image) budget (machine (b .core .registers) (b .core .control) image)
+  pub accepted : b .answer ≡ 0 → (r : Ran Machine) → r ≡ run (length image) budget (machine (b .core .registers) (b .core .control) image)
       → (reportText image ≡ answerLine (r .answer) ++ coreLines (r .machine .registers) (r .machine .control))
       × (imageAfter image ≡ r .machine .memory)
   unfolding reportText imageAfter finished

@@ -7,9 +7,9 @@ use lib.ListN.{length, replicate}
 use Rattle.bits.specs.Choice.{pick}
 use Rattle.text.specs.Text.{hexDigits, decimal}
 use Rattle.cycle.specs.declared.Control.{Control}
-use Rattle.cycle.specs.Machine.{machine}
+use Rattle.cycle.specs.Machine.{Machine, machine}
 use Rattle.pipeline.specs.Calls.{Begun, start, run}
-use Rattle.runs.specs.Run.{Ran}
+use Rattle.plain.specs.Running.{Ran}
 use Rattle.report.specs.Lines.{line, registerLines}
 
 -- answer=
@@ -33,7 +33,7 @@ budget = 64
 unfoldable pub begun : List ℕ → Begun
 begun image = start (replicate 15 0) 0 0 image
 
-unfoldable pub finished : List ℕ → Ran
+unfoldable pub finished : List ℕ → Ran Machine
 finished image = run (length image) budget (machine (begun image .core .registers) (begun image .core .control) image)
 
 abbrev pub accepted : List ℕ → Bool

@@ -24,7 +24,9 @@ use Rattle.plain.specs.Numbers.{mostBytes}
 use Rattle.cycle.specs.Machine.{Machine, machine, mostCycles}
 use Rattle.cycle.specs.StopFound.{stopFound}
 use Rattle.cycle.specs.Cycle.{cycle}
-use Rattle.runs.specs.Run.{Ran, ran, oneMore, moreBy, holding, runFrom}
+use Rattle.plain.specs.Running.{Ran, ran, moreBy}
+use Rattle.plain.proofs.Running as running
+use Rattle.runs.specs.Run.{engine, runFrom}
 use Rattle.runs.specs.Boundary.{boundary}
 use Rattle.runs.specs.Whole.{Stretch, stretch, longer, untilStep1, plainly, between, longest, wholes, same, clear, sized, filled, stands, placed, skipped, Continues, QuickRoad}
 use Rattle.cycle.specs.StopFound.{isStep1, stopFound}
@@ -71,11 +73,11 @@ continues-done {u = u} o e = ap (moreBy u) e ∙ sym (o .goes)
 
 continues-left : {b u : ℕ} {m₀ m : Machine} → Left b m₀ u m → Continues b m₀ (stretch u m)
 continues-left {b} {u} {m₀} {m} l =
-    let r : l .rest ≡ b - u = omega (arith, l .sum) in
+    let r : l .left .rest ≡ b - u = omega (arith, l .left .sum) in
     record {
-      within = omega (arith, l .sum);
-      goes = l .same ∙ ap (λ x. moreBy u (runFrom x m)) r;
-      room = omega (arith, l .room);
+      within = omega (arith, l .left .sum);
+      goes = l .left .same ∙ ap (λ x. moreBy u (runFrom x m)) r;
+      room = omega (arith, l .room, r);
       behind = l .behind;
     }
 
@@ -89,7 +91,7 @@ to-step1 (suc b) m h k = go (isStep1 (m .control .phase)) refl (to-step1 b (cycl
         → Continues (suc b) m (pick t (stretch 0 m) (longer 1 (untilStep1 b (cycle m))))
     go true e on = continues-start (suc b) m h k
     go false e on =
-        let one : Continues (suc b) m (stretch 1 (cycle m)) = continues-left (left-step (left-start (suc b) m h k) (omega arith) (sym (no-stop m e)) refl refl) in
+        let one : Continues (suc b) m (stretch 1 (cycle m)) = continues-left (left-step (left-start (suc b) m h k) (omega arith) refl (no-stop m e)) in
         let s : suc b - 1 ≡ b = omega arith in
         continues-both (suc b) 1 m (cycle m) (untilStep1 b (cycle m)) one (rw s (on (omega (arith, one .room)) (one .behind)))
 
@@ -126,7 +128,7 @@ module _ {b u : ℕ} {m₀ m : Machine} (l : UntilStep1 b m₀ u m) where
       let rest = untilStep1 (b - (u + 1)) (cycle m) in
       let sum : u + (1 + rest .used) ≡ u + 1 + rest .used = omega arith in
       record {
-        left = left-step (l .left) h (sym (no-stop m f)) refl w;
+        left = left-step (l .left) h w (no-stop m f);
         same =
             rw w
             (l .same ∙ ap (λ n. longer u (untilStep1 n m)) s ∙ ap (λ t. longer u (pick t (stretch 0 m) (longer 1 rest))) f
@@ -268,15 +270,5 @@ pub skips-on : {b u v : ℕ} {m₀ m k : Machine} → Continues b m₀ (stretch 
 skips-on {b} {u} {m = m} o e = subst (Continues (b - u) m) (sym e) (quick-road .skipping (b - u) m (o .room) (o .behind))
 
 -- no run uses more than its budget
-run-within : (b : ℕ) (m : Machine) → runFrom b m .used ≤ b
-unfolding runFrom
-run-within zero m = omega arith
-run-within (suc b) m = go (stopFound m) (run-within b (cycle m))
-  where
-    go : (q : ℕ) → runFrom b (cycle m) .used ≤ b
-        → (elim q as (λ (x : ℕ). Ran) [ zero ↦ oneMore (runFrom b (cycle m)) | suc q ↦ ran (suc q) 0 (holding m (suc q)) ]) .used ≤ suc b
-    go zero h = omega arith
-    go (suc q) h = omega arith
-
 pub used-within : (b : ℕ) (m : Machine) {answer used : ℕ} {k : Machine} → ran answer used k ≡ runFrom b m → used ≤ b
-used-within b m e = omega (arith, ap (λ (r : Ran). r .used) e, run-within b m)
+used-within b m e = omega (arith, ap (λ (r : Ran Machine). r .used) e, running.used-at-most engine b m)

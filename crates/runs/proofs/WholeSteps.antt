@@ -23,7 +23,8 @@ use Rattle.cycle.specs.Machine.{Machine}
 use Rattle.cycle.specs.Cycle.{cycle}
 use Rattle.cycle.specs.StopFound.{stopFound}
 use Rattle.cycle.proofs.StopFound.{no-stop}
-use Rattle.runs.specs.Run.{ran, oneMore, moreBy, runFrom}
+use Rattle.plain.specs.Running.{ran, oneMore, moreBy, runs}
+use Rattle.runs.specs.Run.{runFrom}
 use Rattle.runs.specs.Boundary.{boundary}
 use Rattle.runs.specs.Whole.{Stretch, stretch, longer, plainly, between, movedOn, longest, wholes}
 use Rattle.runs.specs.declared.Between.{Between}
@@ -32,8 +33,8 @@ use Rattle.runs.proofs.PlainSteps.{stop-is, flight, duration-flight, fl
 use Rattle.runs.proofs.PlainSteps.{boundary-stop}
 
 pub run-on : (b : ℕ) (m : Machine) → stopFound m ≡ 0 → runFrom (suc b) m ≡ oneMore (runFrom b (cycle m))
-unfolding runFrom
-run-on b m e = rw (e, runFrom)
+unfolding runs
+run-on b m e = rw (e, runs)
 
 flown : (n k u b : ℕ) (m e : Machine) → Flight k u n m e → runFrom (n + b) m ≡ moreBy n (runFrom b e)
 flown zero k u b m e f = let z : 0 + b ≡ b = omega arith in rw z (ap (runFrom b) f ∙ ap (λ x. ran (runFrom b e .answer) x (runFrom b e .machine)) (sym (zero-add (runFrom b e .used))))

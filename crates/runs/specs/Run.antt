@@ -1,5 +1,6 @@
 -- Cycles until the budget is spent or a stop is found.
-use Prim.Native.Nat.{ℕ, zero, suc, _+_}
+use Prim.Native.Nat.{ℕ}
+use Rattle.plain.specs.Running.{Ran, Engine, runs}
 use Rattle.cycle.specs.Machine.{Machine, machine}
 use Rattle.cycle.specs.Cycle.{cycle}
 use Rattle.cycle.specs.StopFound.{stopFound}
@@ -18,23 +19,10 @@ holding m stop =
       board = c .board;
     }) (m .memory)
 
--- what a run hands back: its answer (0 where the budget is spent), the cycles it counted, and the machine
-pub record Ran : Type 0 where
-  pub answer : ℕ
-  pub used : ℕ
-  pub machine : Machine
+-- a stop is found before the step 1 that it stops, and held
+abbrev pub engine : Engine Machine
+engine = record { finds = stopFound; next = cycle; stopped = holding }
 
-abbrev pub ran : ℕ → ℕ → Machine → Ran
-ran answer used m = record { answer = answer; used = used; machine = m }
-
-abbrev pub oneMore : Ran → Ran
-oneMore r = ran (r .answer) (suc (r .used)) (r .machine)
-
--- a run that had n cycles before
-abbrev pub moreBy : ℕ → Ran → Ran
-moreBy n r = ran (r .answer) (n + r .used) (r .machine)
-
--- cycles until the budget is spent or a stop is found; the budget is tested first
-unfoldable pub runFrom : ℕ → Machine → Ran
-runFrom zero m = ran 0 0 m
-runFrom (suc n) m = elim (stopFound m) [ zero ↦ oneMore (runFrom n (cycle m)) | suc q ↦ ran (suc q) 0 (holding m (suc q)) ]
+-- so many cycles, or fewer and a stop, which takes none
+abbrev pub runFrom : ℕ → Machine → Ran Machine
+runFrom n m = runs engine n m

@@ -19,7 +19,8 @@ use Rattle.plain.specs.Numbers.{mostBytes}
 use Rattle.cycle.specs.Machine.{Machine, machine, counts, mostCycles}
 use Rattle.cycle.specs.Cycle.{cycle}
 use Rattle.cycle.specs.StopFound.{isStep1}
-use Rattle.runs.specs.Run.{moreBy, runFrom}
+use Rattle.plain.specs.Running.{moreBy}
+use Rattle.runs.specs.Run.{runFrom}
 use Rattle.runs.specs.Boundary.{boundary}
 
 -- a stretch of a run: the cycles that it used, and where it came to

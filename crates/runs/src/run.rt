@@ -2,7 +2,8 @@
 ghost use mathlib.Core.Path.{_≡_};
 ghost use Prim.Native.Nat.{_+_, _≤_};
 ghost use Rattle.cycle.specs.Machine.{machine, mostCycles};
-ghost use Rattle.runs.specs.Run.{ran, runFrom};
+ghost use Rattle.plain.specs.Running.{ran};
+ghost use Rattle.runs.specs.Run.{runFrom};
 use crate::ControlRan;
 use crate::quick::skip;
 use crate::quick::to_step1;

@@ -11,9 +11,9 @@ use Rattle.word.specs.declared.Instruction.{Instruction}
 use Rattle.pipeline.specs.declared.Core.{Core}
 use Rattle.cycle.specs.Machine as pipelined
 use Rattle.pipeline.specs.Calls as pipeline
-use Rattle.runs.specs.Run as runs
 use Rattle.plain.specs.declared.Plain.{Plain}
 use Rattle.plain.specs.Machine as unpiped
+use Rattle.plain.specs.Running.{Ran, ran}
 use Rattle.plain.specs.Run as plain
 use Rattle.core_arrays.specs.CoreArray as coreArray
 use Rattle.plain_arrays.specs.PlainArray as plainArray
@@ -53,16 +53,16 @@ module _ (words mem : List ℕ) (n : ℕ) where
 
   -- where the array refuses nothing: from the core that was unpacked, and what its run left
   module _ {r : ℕ} (i : r ≡ refusalOf words (length mem)) (z : r ≡ 0) {c next : Core} {a u : ℕ} {mem' : List ℕ} (e : c ≡ coreArray.unpacked words)
-      (q : runs.ran a u (pipelined.machine (next .registers) (next .control) mem') ≡ pipeline.run (length mem) n (coreMachine c mem)) where
+      (q : ran a u (pipelined.machine (next .registers) (next .control) mem') ≡ pipeline.run (length mem) n (coreMachine c mem)) where
     core-joined : unlessRefused words mem (called a u (coreArray.packed next) mem') ≡ coreRun words mem n
     core-joined =
-        ap (λ (r : runs.Ran). unlessRefused words mem (coreCalled r)) q
+        ap (λ (r : Ran pipelined.Machine). unlessRefused words mem (coreCalled r)) q
         ∙ (ap (λ (k : Core). unlessRefused words mem (coreCalled (pipeline.run (length mem) n (coreMachine k mem)))) e ∙ array-accepted (sym i ∙ z))
 
     pub core-refused : isRefusal a ≡ true → called a 0 words mem' ≡ coreRun words mem n
     core-refused r =
-        let kept = core-kept (length mem) n (coreMachine c mem) (ap (λ (z : runs.Ran). isRefusal (z .answer)) (sym q) ∙ r) in
-        ap (λ (k : List ℕ). called a 0 words k) (ap (λ (z : runs.Ran). z .machine .memory) (q ∙ kept))
+        let kept = core-kept (length mem) n (coreMachine c mem) (ap (λ (z : Ran pipelined.Machine). isRefusal (z .answer)) (sym q) ∙ r) in
+        ap (λ (k : List ℕ). called a 0 words k) (ap (λ (z : Ran pipelined.Machine). z .machine .memory) (q ∙ kept))
         ∙ (handed-back words mem (called a u (coreArray.packed next) mem') r ∙ core-joined)
 
     pub core-ran : {p : List ℕ} → isRefusal a ≡ false → p ≡ coreArray.packed next → called a u p mem' ≡ coreRun words mem n
@@ -71,17 +71,17 @@ module _ (words mem : List ℕ) (n : ℕ) where
   -- ---- the plain machine's run
 
   module _ {c next : Plain} {a u : ℕ} {mem' : List ℕ} (e : c ≡ plainArray.unpacked words)
-      (q : plain.ran a u (unpiped.machine next mem') ≡ plain.run n (unpiped.machine c mem)) where
+      (q : ran a u (unpiped.machine next mem') ≡ plain.run n (unpiped.machine c mem)) where
     plain-joined : unlessRefused words mem (called a u (plainArray.packed next) mem') ≡ plainRun words mem n
     unfolding plainRun
     plain-joined =
-        ap (λ (r : plain.Ran). unlessRefused words mem (plainCalled r)) q
+        ap (λ (r : Ran unpiped.Machine). unlessRefused words mem (plainCalled r)) q
         ∙ ap (λ (k : Plain). unlessRefused words mem (plainCalled (plain.run n (unpiped.machine k mem)))) e
 
     pub plain-refused : isRefusal a ≡ true → called a 0 words mem' ≡ plainRun words mem n
     plain-refused r =
-        let kept = plain-kept n (unpiped.machine c mem) (ap (λ (z : plain.Ran). isRefusal (z .answer)) (sym q) ∙ r) in
-        ap (λ (k : List ℕ). called a 0 words k) (ap (λ (z : plain.Ran). z .machine .memory) (q ∙ kept))
+        let kept = plain-kept n (unpiped.machine c mem) (ap (λ (z : Ran unpiped.Machine). isRefusal (z .answer)) (sym q) ∙ r) in
+        ap (λ (k : List ℕ). called a 0 words k) (ap (λ (z : Ran unpiped.Machine). z .machine .memory) (q ∙ kept))
         ∙ (handed-back words mem (called a u (plainArray.packed next) mem') r ∙ plain-joined)
 
     pub plain-ran : {p : List ℕ} → isRefusal a ≡ false → p ≡ plainArray.packed next → called a u p mem' ≡ plainRun words mem n

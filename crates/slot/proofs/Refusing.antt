@@ -9,15 +9,16 @@ use lib.ListN.{length}
 use borrow.Author.Tests.{eqb-true, ne-eqb, leb-true, lt-leb, not-false}
 use Rattle.bits.specs.Choice.{pick}
 use Rattle.cycle.specs.Machine as pipelined
-use Rattle.cycle.specs.Cycle.{cycle}
 use Rattle.cycle.specs.StopFound.{isStep1, stopFound}
 use Rattle.refusals.specs.Numbers as numbers
 use Rattle.pipeline.specs.Calls as pipeline
-use Rattle.runs.specs.Run as runs
+use Rattle.runs.specs.Run as run
 use Rattle.runs.proofs.PlainSteps.{Stop, stop-for, stop-met}
 use Rattle.plain.specs.Machine as unpiped
 use Rattle.plain.specs.Numbers.{badLength, badFlags, isCounter, isStop}
 use Rattle.plain.specs.Numbers as plainNumbers
+use Rattle.plain.specs.Running.{ran, Engine, runs, unless}
+use Rattle.plain.proofs.Running.{found}
 use Rattle.plain.specs.Run as plain
 use Rattle.plain.specs.Trace.{stopMet}
 use Rattle.slot.specs.Calls.{isRefusal}
@@ -62,6 +63,16 @@ or-number false q r h k n e = k n e
 no-number : Number 0
 no-number q e = absurd (omega arith)
 
+-- an engine whose stops are no refusals answers no refusal
+answers : {M : Type 0} (e : Engine M) → ((m : M) → Other (e .finds m)) → (n : ℕ) (m : M) → Other (runs e n m .answer)
+unfolding runs
+answers e h zero m = refl
+answers e h (suc n) m = go (e .finds m) (h m) (answers e h n (e .next m))
+  where
+    go : (q : ℕ) → Other q → Other (runs e n (e .next m) .answer) → Other (found e q n m .answer)
+    go zero h k = k
+    go (suc q) h k = h
+
 -- ---- the core
 
 core-found : (m : pipelined.Machine) → Other (stopFound m)
@@ -71,16 +82,6 @@ core-found m = go (isStep1 (m .control .phase)) _ (stop-other (stop-for _ _))
     go : (b : Bool) (q : ℕ) → Other q → Other (pick b q 0)
     go true q h = h
     go false q h = refl
-
-core-runs : (n : ℕ) (m : pipelined.Machine) → Other (runs.runFrom n m .answer)
-unfolding runs.runFrom
-core-runs zero m = refl
-core-runs (suc n) m = go (stopFound m) (core-found m) (core-runs n (cycle m))
-  where
-    go : (q : ℕ) → Other q → Other (runs.runFrom n (cycle m) .answer)
-        → Other ((elim q as (λ x. runs.Ran) [ zero ↦ runs.oneMore (runs.runFrom n (cycle m)) | suc r ↦ runs.ran (suc r) 0 (runs.holding m (suc r)) ]) .answer)
-    go zero h k = k
-    go (suc q) h k = h
 
 module _ (lent budget : ℕ) (m : pipelined.Machine) where
   pub core-number : Number (numbers.refusal lent budget m)
@@ -107,17 +108,17 @@ module _ (lent budget : ℕ) (m : pipelined.Machine) where
   unfolding pipeline.run
   core-accepted e = rw e (go (m .control .stop) (held (m .control .stop) (holds-stop e)))
     where
-      go : (q : ℕ) → Other q → Other (pipeline.unless q m (runs.runFrom budget m) .answer)
-      go zero h = core-runs budget m
+      go : (q : ℕ) → Other q → Other (unless q m (run.runFrom budget m) .answer)
+      go zero h = answers run.engine core-found budget m
       go (suc q) h = rw (ne-eqb (suc q) 0 (λ e. omega arith)) h
 
   -- a run whose answer is a refusal changed nothing
-  pub core-kept : isRefusal (pipeline.run lent budget m .answer) ≡ true → pipeline.run lent budget m ≡ runs.ran (pipeline.run lent budget m .answer) 0 m
+  pub core-kept : isRefusal (pipeline.run lent budget m .answer) ≡ true → pipeline.run lent budget m ≡ ran (pipeline.run lent budget m .answer) 0 m
   unfolding pipeline.run
   core-kept = go (numbers.refusal lent budget m) refl
     where
       go : (r : ℕ) → numbers.refusal lent budget m ≡ r → isRefusal (pipeline.run lent budget m .answer) ≡ true
-          → pipeline.run lent budget m ≡ runs.ran (pipeline.run lent budget m .answer) 0 m
+          → pipeline.run lent budget m ≡ ran (pipeline.run lent budget m .answer) 0 m
       go zero e h = absurd (false≢true (sym (core-accepted e) ∙ h))
       go (suc q) e h = rw (e, ne-eqb (suc q) 0 (λ z. omega arith))
 
@@ -126,16 +127,6 @@ module _ (lent budget : ℕ) (m : pipelined.Machine) where
 plain-found : (m : unpiped.Machine) → Other (unpiped.step m .plain .stop)
 unfolding unpiped.step stopMet
 plain-found m = stop-other (stop-met m)
-
-plain-runs : (n : ℕ) (m : unpiped.Machine) → Other (plain.runFrom n m .answer)
-unfolding plain.runFrom
-plain-runs zero m = refl
-plain-runs (suc n) m = go (unpiped.step m .plain .stop) (plain-found m) (plain-runs n (unpiped.step m))
-  where
-    go : (q : ℕ) → Other q → Other (plain.runFrom n (unpiped.step m) .answer)
-        → Other ((elim q as (λ x. plain.Ran) [ zero ↦ plain.oneMore (plain.runFrom n (unpiped.step m)) | suc r ↦ plain.ran (suc r) 0 (unpiped.step m) ]) .answer)
-    go zero h k = k
-    go (suc q) h k = h
 
 module _ (count : ℕ) (m : unpiped.Machine) where
   abbrev refusal : ℕ
@@ -161,14 +152,14 @@ module _ (count : ℕ) (m : unpiped.Machine) where
   unfolding plain.run
   plain-accepted e = rw e (go (m .plain .stop) (held (m .plain .stop) (plain-holds-stop e)))
     where
-      go : (q : ℕ) → Other q → Other (plain.unless q m (plain.runFrom count m) .answer)
-      go zero h = plain-runs count m
+      go : (q : ℕ) → Other q → Other (unless q m (plain.runFrom count m) .answer)
+      go zero h = answers plain.engine plain-found count m
       go (suc q) h = rw (ne-eqb (suc q) 0 (λ e. omega arith)) h
 
-  pub plain-kept : isRefusal (plain.run count m .answer) ≡ true → plain.run count m ≡ plain.ran (plain.run count m .answer) 0 m
+  pub plain-kept : isRefusal (plain.run count m .answer) ≡ true → plain.run count m ≡ ran (plain.run count m .answer) 0 m
   unfolding plain.run
   plain-kept = go refusal refl
     where
-      go : (r : ℕ) → refusal ≡ r → isRefusal (plain.run count m .answer) ≡ true → plain.run count m ≡ plain.ran (plain.run count m .answer) 0 m
+      go : (r : ℕ) → refusal ≡ r → isRefusal (plain.run count m .answer) ≡ true → plain.run count m ≡ ran (plain.run count m .answer) 0 m
       go zero e h = absurd (false≢true (sym (plain-accepted e) ∙ h))
       go (suc q) e h = rw (e, ne-eqb (suc q) 0 (λ z. omega arith))

@@ -5,12 +5,13 @@ use mathlib.Core.List.{List}
 use lib.Dec.{eqb, leb}
 use lib.ListN.{length}
 use Rattle.bits.specs.Choice.{pick}
-use Rattle.writer.specs.Writer.{Answer, writeOf}
+use Rattle.writer.specs.Writer.{Answer, noWordFor, writeOf}
 use Rattle.pipeline.specs.declared.Core.{Core}
 use Rattle.cycle.specs.Machine as pipelined
 use Rattle.pipeline.specs.Calls as pipeline
-use Rattle.runs.specs.Run as runs
+use Rattle.plain.specs.Refused.{recordRefused, otherMemory}
 use Rattle.plain.specs.Machine as unpiped
+use Rattle.plain.specs.Running.{Ran}
 use Rattle.plain.specs.Run as plain
 use Rattle.core_arrays.specs.CoreArray as coreArray
 use Rattle.plain_arrays.specs.PlainArray as plainArray
@@ -53,7 +54,7 @@ coreBegun b = started (b .answer) (coreArray.packed (b .core))
 unfoldable pub coreStart : List ℕ → ℕ → ℕ → List ℕ → Started
 coreStart g flags entry mem = coreBegun (pipeline.start g flags entry mem)
 
-abbrev pub coreCalled : runs.Ran → Called
+abbrev pub coreCalled : Ran pipelined.Machine → Called
 coreCalled r =
     called (r .answer) (r .used) (coreArray.packed (pipeline.core (r .machine .registers) (r .machine .control))) (r .machine .memory)
 
@@ -65,7 +66,7 @@ otherLength lent length = not (eqb lent length)
 
 -- 12 where the lent length differs, 11 where the array stands for no core
 abbrev pub arrayRefusal : Bool → Bool → ℕ
-arrayRefusal differs stands = pick differs 12 (pick (not stands) 11 0)
+arrayRefusal differs stands = pick differs otherMemory (pick (not stands) recordRefused 0)
 
 -- what a core's array refuses with before its core is run, or 0
 abbrev pub refusalOf : List ℕ → ℕ → ℕ
@@ -84,8 +85,8 @@ plainBegun b = started (b .answer) (plainArray.packed (b .plain))
 unfoldable pub plainStart : List ℕ → ℕ → ℕ → List ℕ → Started
 plainStart g flags entry mem = plainBegun (plain.start g flags entry mem)
 
-abbrev pub plainCalled : plain.Ran → Called
-plainCalled r = called (r .answer) (r .done) (plainArray.packed (r .machine .plain)) (r .machine .memory)
+abbrev pub plainCalled : Ran unpiped.Machine → Called
+plainCalled r = called (r .answer) (r .used) (plainArray.packed (r .machine .plain)) (r .machine .memory)
 
 -- array, memory, count; every array stands for a plain machine, whose run tests 12 and then 11 itself
 unfoldable pub plainRun : List ℕ → List ℕ → ℕ → Called
@@ -96,4 +97,4 @@ answer number word = record { number = number; word = word }
 
 -- an array that stands for no record is refused like any other record that has no word
 unfoldable pub wordOf : List ℕ → Answer
-wordOf words = pick (standsForRecord words) (writeOf (recordOf words)) (answer 5 0)
+wordOf words = pick (standsForRecord words) (writeOf (recordOf words)) (answer noWordFor 0)

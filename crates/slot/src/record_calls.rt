@@ -8,6 +8,7 @@ use record_arrays::packing::record_words;
 use record_arrays::standing::stands_for_record;
 use record_arrays::unpacking::record_of;
 use word::reader::read;
+use writer::NO_WORD_FOR;
 use writer::Written;
 use writer::write;
 
@@ -25,13 +26,13 @@ pub extern "C" fn slot_word_write(fields: &RecordArray, word: &mut u32) -> u32
 {
     *word = 0;
     if !stands_for_record(fields) {
-        return 5;
+        return NO_WORD_FOR;
     }
     match write(record_of(fields)) {
         Written::Word(w) => {
             *word = w;
             0
         }
-        Written::Refused => 5,
+        Written::Refused => NO_WORD_FOR,
     }
 }

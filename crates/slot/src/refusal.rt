@@ -4,6 +4,8 @@ ghost use Rattle.slot.specs.Calls.{isRefusal, otherLength, arrayRefusal,
 use core_arrays::CoreArray;
 use core_arrays::unpacking::length_in;
 use core_arrays::unpacking::stands_for_core;
+use plain::refused::OTHER_MEMORY;
+use plain::refused::RECORD_REFUSED;
 
 pub fn is_refusal(answer: u32) -> bool
     ensures { λ r. ⌜ r ≡ isRefusal answer ⌝ }
@@ -21,10 +23,10 @@ fn array_refusal(differs: bool, stands: bool) -> u32
     ensures { λ r. ⌜ r ≡ arrayRefusal differs stands ⌝ }
 {
     if differs {
-        return 12;
+        return OTHER_MEMORY;
     }
     if !stands {
-        return 11;
+        return RECORD_REFUSED;
     }
     0
 }

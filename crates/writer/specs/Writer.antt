@@ -59,6 +59,10 @@ classHas (Instruction.Other word) = isOther (readOf word)
 unfoldable pub written : Instruction → Written
 written i = allow (classHas i) (packed (Word 0) (fieldsOf i))
 
+-- the number of a record that no word reads as
+abbrev pub noWordFor : ℕ
+noWordFor = 5
+
 -- the paper's number and word for a writer's answer: 0 and the word, or 5 and 0
 pub record Answer : Type 0 where
   pub number : ℕ
@@ -66,7 +70,7 @@ pub record Answer : Type 0 where
 
 abbrev pub answerOf : Written → Answer
 answerOf (Word w) = record { number = 0; word = w }
-answerOf Refused = record { number = 5; word = 0 }
+answerOf Refused = record { number = noWordFor; word = 0 }
 
 abbrev pub writeOf : Instruction → Answer
 writeOf i = answerOf (written i)

@@ -14,7 +14,10 @@ use word::Single;
 use word::reader::is_other;
 use word::reader::read;
 
-// A writer's answer: the word, or a refusal, which is number 5.
+// The number of a record that no word reads as.
+pub const NO_WORD_FOR: u32 = 5;
+
+// A writer's answer: the word, or a refusal, which has that number.
 pub enum Written {
     Word(u32),
     Refused,

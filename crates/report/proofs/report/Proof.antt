@@ -5,7 +5,7 @@ use mathlib.Core.List.{_++_}
 use Rattle.text.specs.Output.{output, put}
 use Rattle.text.proofs.Put.{put-append}
 use Rattle.cycle.specs.Machine.{machine}
-use Rattle.runs.specs.Run.{ran}
+use Rattle.plain.specs.Running.{ran}
 use Rattle.report.specs.Report.{answerLine, coreLines, begun}
 use Rattle.report.proofs.Room.{told}
 use Rattle.report.proofs.Told.{refused, accepted}
