@@ -86,8 +86,9 @@ module _ (b : ℕ) (p : plain.Machine) (k t : ℕ) where
 
 -- ---- the loop over them
 
--- u cycles on from b₀ it stands at b: what is left of the stretch s, and the counts
-pub record Going (budget : ℕ) (s : Stretch) (b₀ : Between) (n : Board) (g : List ℕ) (b : Between) (mem : List ℕ) (u : ℕ) : Type 0 where
+-- some cycles on from b₀ it stands at b: what is left of the stretch s, and the counts
+pub record Going (budget : ℕ) (s : Stretch) (b₀ : Between) (n : Board) (g : List ℕ) (b : Between) (mem : List ℕ) : Type 0 where
+  pub u : ℕ
   pub most : ℕ
   pub enough : budget - u ≤ most
   pub same : s ≡ longer u (wholes most (budget - u) (plainly g b n mem) (b .counts .retired) (b .counts .cycles))
@@ -96,11 +97,12 @@ pub record Going (budget : ℕ) (s : Stretch) (b₀ : Between) (n : Board) (g : 
   pub retired : b .counts .retired ≤ b .counts .cycles
 
 pub going-start : (budget : ℕ) (g : List ℕ) (b : Between) (n : Board) (mem : List ℕ) → b .counts .retired ≤ b .counts .cycles
-    → Going budget (wholes budget budget (plainly g b n mem) (b .counts .retired) (b .counts .cycles)) b n g b mem 0
+    → Going budget (wholes budget budget (plainly g b n mem) (b .counts .retired) (b .counts .cycles)) b n g b mem
 going-start budget g b n mem h =
     let z : budget - 0 ≡ budget = omega arith in
     let all = wholes budget budget (plainly g b n mem) (b .counts .retired) (b .counts .cycles) in
     record {
+      u = 0;
       most = budget;
       enough = omega arith;
       same = rw z (ap (λ x. stretch x (all .machine)) (sym (zero-add (all .used))));
@@ -109,12 +111,18 @@ going-start budget g b n mem h =
       retired = h;
     }
 
-module _ {budget : ℕ} {s : Stretch} {b₀ : Between} {n : Board} {g : List ℕ} {b : Between} {mem : List ℕ} {u : ℕ} (l : Going budget s b₀ n g b mem u) where
-  ended : wholes (l .most) (budget - u) (plainly g b n mem) (b .counts .retired) (b .counts .cycles) ≡ stretch 0 (between g b n mem) → stretch u (between g b n mem) ≡ s
-  ended e = sym (l .same ∙ ap (longer u) e ∙ ap (λ x. stretch x (between g b n mem)) (add-zero u))
+module _ {budget : ℕ} {s : Stretch} {b₀ : Between} {n : Board} {g : List ℕ} {b : Between} {mem : List ℕ} (l : Going budget s b₀ n g b mem) where
+  abbrev used : ℕ
+  used = b .counts .cycles - b₀ .counts .cycles
 
-  pub going-short : budget < u + longest → stretch u (between g b n mem) ≡ s
-  going-short h = ended (ends-short (budget - u) (plainly g b n mem) (b .counts .retired) (b .counts .cycles) (l .most) (omega arith))
+  counted : used ≡ l .u
+  counted = omega (arith, l .cycles)
+
+  ended : wholes (l .most) (budget - l .u) (plainly g b n mem) (b .counts .retired) (b .counts .cycles) ≡ stretch 0 (between g b n mem) → stretch used (between g b n mem) ≡ s
+  ended e = rw counted (sym (l .same ∙ ap (longer (l .u)) e ∙ ap (λ x. stretch x (between g b n mem)) (add-zero (l .u))))
+
+  pub going-short : b₀ .counts .cycles + budget < b .counts .cycles + longest → stretch used (between g b n mem) ≡ s
+  going-short h = ended (ends-short (budget - l .u) (plainly g b n mem) (b .counts .retired) (b .counts .cycles) (l .most) (omega (arith, l .cycles)))
 
   -- what performing the word there tells
   module _ {r : Performed} {h new : List ℕ} (e : resultOf r h (memoryOf n new) ≡ performs (wordAt (memoryOf n mem) (b .a)) (state g (b .flags) (b .a) (memoryOf n mem))) where
@@ -147,18 +155,19 @@ module _ {budget : ℕ} {s : Stretch} {b₀ : Between} {n : Board} {g : List ℕ
         let k = stopped-unchanged (wordAt (memoryOf n mem) (b .a)) st .unchanged (λ q. z (stop-told ∙ stop-is (plainly g b n mem) ∙ q)) in
         (sym (k .registers) ∙ sym (ap (λ (x : Result). x .registers) e), ap (λ (m : Memory). m .bytes) (sym (k .memory) ∙ sym (ap (λ (x : Result). x .memory) e)))
 
-    pub going-stop : (r .stop ≡ 0 → ⊥) → stretch u (between h b n new) ≡ s
+    pub going-stop : (r .stop ≡ 0 → ⊥) → stretch used (between h b n new) ≡ s
     going-stop z =
         let k = same-told z in
-        rw (sym (k .0), sym (k .1)) (ended (ends-stop (budget - u) (plainly g b n mem) (b .counts .retired) (b .counts .cycles) (l .most) stop-told z))
+        rw (sym (k .0), sym (k .1)) (ended (ends-stop (budget - l .u) (plainly g b n mem) (b .counts .retired) (b .counts .cycles) (l .most) stop-told z))
 
-    pub going-step : u + longest ≤ budget → r .stop ≡ 0 → Going budget s b₀ n h (movedOn b r) new (u + r .cycles)
-    going-step room z = go (l .most) (l .enough) (l .same)
+    pub going-step : b .counts .cycles + longest ≤ b₀ .counts .cycles + budget → r .stop ≡ 0 → Going budget s b₀ n h (movedOn b r) new
+    going-step room z = go (l .u) (l .cycles) (l .most) (l .enough) (l .same)
       where
-        go : (most : ℕ) → budget - u ≤ most → s ≡ longer u (wholes most (budget - u) (plainly g b n mem) (b .counts .retired) (b .counts .cycles))
-            → Going budget s b₀ n h (movedOn b r) new (u + r .cycles)
-        go zero i j = absurd (omega arith)
-        go (suc most) i j =
+        go : (u : ℕ) → b .counts .cycles ≡ b₀ .counts .cycles + u → (most : ℕ) → budget - u ≤ most
+            → s ≡ longer u (wholes most (budget - u) (plainly g b n mem) (b .counts .retired) (b .counts .cycles))
+            → Going budget s b₀ n h (movedOn b r) new
+        go u c zero i j = absurd (omega arith)
+        go u c (suc most) i j =
             let d = cycles-told in
             let rest : (budget - u) - duration (plainly g b n mem) ≡ budget - (u + r .cycles) = omega arith in
             let one : suc (b .counts .retired) ≡ b .counts .retired + 1 = omega arith in
@@ -167,10 +176,11 @@ module _ {budget : ℕ} {s : Stretch} {b₀ : Between} {n : Board} {g : List ℕ
             let w : wholes (suc most) (budget - u) (plainly g b n mem) (b .counts .retired) (b .counts .cycles) ≡ longer (r .cycles) after =
             goes-by (budget - u) (plainly g b n mem) (b .counts .retired) (b .counts .cycles) most (omega arith) (sym stop-told ∙ z) ∙ rw (step-told z, rest, one, sym d) in
             record {
+              u = u + r .cycles;
               most = most;
               enough = omega (arith, positive-told z);
               same = j ∙ ap (longer u) w ∙ ap (λ x. stretch x (after .machine)) sum;
               near = omega (arith, short-told z);
-              cycles = omega (arith, l .cycles);
+              cycles = omega (arith, c);
               retired = omega (arith, l .retired, positive-told z);
             }

@@ -54,17 +54,23 @@ fn whole(
     requires { ⌜ (at .counts .cycles + budget ≤ mostCycles) × (at .counts .retired ≤ at .counts .cycles) ⌝ }
     ensures { λ r. ⌜ stretch (r .used) (between (now (registers .exit)) (r .at) board (now (memory .exit))) ≡ wholes budget budget (plainly (now (registers .entry)) at board (now (memory .entry))) (at .counts .retired) (at .counts .cycles) ⌝ }
 {
+    let start = at.counts.cycles;
+    let end = start + budget;
     let mut here = at;
-    let mut used: u64 = 0;
-    while used + LONGEST <= budget {
+    while here.counts.cycles + LONGEST <= end {
         let r = perform_at(registers, memory, here.flags, here.a, board);
         if r.stop != 0 {
-            return BetweenAfter { at: here, used };
+            return BetweenAfter {
+                used: here.counts.cycles - start,
+                at: here,
+            };
         }
         here = moved(here, r);
-        used = used + r.cycles as u64;
     }
-    BetweenAfter { at: here, used }
+    BetweenAfter {
+        used: here.counts.cycles - start,
+        at: here,
+    }
 }
 
 // ---- to a boundary, and on from it

@@ -1,5 +1,5 @@
 use mathlib.Core.Path.{_≡_, refl}
-use Prim.Native.Nat.{_-_}
+use Prim.Native.Nat.{_+_, _-_}
 use native.Mathlib.Omega.{arith}
 use borrow.Author.Needs.{needs}
 use Rattle.runs.specs.Whole.{plainly, wholes}
@@ -8,66 +8,66 @@ use Rattle.runs.proofs.quick.whole.Statement.{statement}
 use Rattle.runs.proofs.quick.whole.Tie as tie
 
 abbrev Inv-loop : tie.InvT-loop
-Inv-loop registers₀ memory₀ board budget here₀ used₀ registers memory here used =
-    Going budget (wholes budget budget (plainly registers₀ here₀ board memory₀) (here₀ .counts .retired) (here₀ .counts .cycles)) here₀ board registers here memory used
+Inv-loop registers₀ memory₀ board budget start end here₀ registers memory here =
+    Going budget (wholes budget budget (plainly registers₀ here₀ board memory₀) (here₀ .counts .retired) (here₀ .counts .cycles)) here₀ board registers here memory
     × (lib.ListN.length memory ≡ lib.ListN.length memory₀)
+    × (start ≡ here₀ .counts .cycles)
+    × (end ≡ start + budget)
 
 abbrev μ-loop : tie.MeasureT-loop
-μ-loop registers₀ memory₀ board budget here₀ used₀ registers memory here used = budget - used
+μ-loop registers₀ memory₀ board budget start end here₀ registers memory here = end - here .counts .cycles
+
+add-end : tie.Need-add-end Inv-loop μ-loop
+add-end c = record { fits = omega (arith, c .before .pre .0) }
 
 loop-holds : tie.Need-loop-holds Inv-loop μ-loop
-loop-holds c = (going-start _ _ _ _ _ (c .before .pre .1), refl)
+loop-holds c = (going-start _ _ _ _ _ (c .before .pre .1), refl, refl, refl)
 
-add-loop : tie.Need-add-loop Inv-loop μ-loop
-add-loop c = record { fits = omega (arith, c .loop .inv .0 .near, c .before .before .pre .0) }
+add-if1 : tie.Need-add-if1 Inv-loop μ-loop
+add-if1 c =
+    let i = c .before .loop .inv in
+    record { fits = omega (arith, i .0 .near, i .0 .cycles, i .2, c .before .before .before .pre .0) }
 
 perform-at-requires : tie.Need-perform-at-requires Inv-loop μ-loop
 perform-at-requires c κs = search needs
+
+sub-t15 : tie.Need-sub-t15 Inv-loop μ-loop
+sub-t15 c = let i = c .before .before .before .before .before .before .before .before .before .before .loop .inv in omega (arith, i .0 .cycles, i .2)
 
 same-length : tie.Need-same-length Inv-loop μ-loop
 same-length c = search needs
 
 returns : tie.Need-returns Inv-loop μ-loop
-returns c = going-stop (c .before .before .before .before .before .before .before .before .loop .inv .0) (c .before .before .before .before .perform-at .ensures) (c .if1 .taken)
+returns c = let i = c .before .before .before .before .before .before .before .before .before .before .loop .inv in rw (i .2) (going-stop (i .0) (c .before .before .before .before .before .perform-at .ensures) (c .before .if2 .taken))
 
 moved-requires : tie.Need-moved-requires Inv-loop μ-loop
 moved-requires c κs =
-    let l = c .before .before .before .before .before .before .before .before .loop .inv .0 in
-    let h = short-told l (c .before .before .before .before .perform-at .ensures) (c .if1 .left) in
-    let p = c .before .before .before .before .before .before .before .before .before .before .pre .0 in
+    let l = c .before .before .before .before .before .before .before .before .before .loop .inv .0 in
+    let h = short-told l (c .before .before .before .before .perform-at .ensures) (c .if2 .left) in
+    let p = c .before .before .before .before .before .before .before .before .before .before .before .pre .0 in
     (omega (arith, l .cycles, l .near), omega (arith, l .cycles, l .near, l .retired))
-
-cast-used : tie.Need-cast-used Inv-loop μ-loop
-cast-used c =
-    let l = c .before .before .before .before .before .before .before .before .before .before .loop .inv .0 in
-    let h = short-told l (c .before .before .before .before .before .before .perform-at .ensures) (c .before .before .if1 .left) in
-    record { fits = omega arith }
-
-add-used : tie.Need-add-used Inv-loop μ-loop
-add-used c =
-    let l = c .before .before .before .before .before .before .before .before .before .before .loop .inv .0 in
-    let h = short-told l (c .before .before .before .before .before .before .perform-at .ensures) (c .before .before .if1 .left) in
-    let p = c .before .before .before .before .before .before .before .before .before .before .before .before .pre .0 in
-    record { fits = omega (arith, l .near) }
 
 loop-less : tie.Need-loop-less Inv-loop μ-loop
 loop-less c =
-    let l = c .before .before .before .before .before .before .before .before .before .before .loop .inv .0 in
-    let z = positive-told l (c .before .before .before .before .before .before .perform-at .ensures) (c .before .before .if1 .left) in
-    omega (arith, c .before .before .before .before .before .before .before .before .before .loop-test .taken)
+    let i = c .before .before .before .before .before .before .before .before .before .before .loop .inv in
+    let z = positive-told (i .0) (c .before .before .before .before .before .perform-at .ensures) (c .before .if2 .left) in
+    rw (c .moved .ensures) (omega (arith, c .before .before .before .before .before .before .before .before .if1 .taken))
 
 loop-again : tie.Need-loop-again Inv-loop μ-loop
 loop-again c =
-    let l = c .before .before .before .before .before .before .before .before .before .before .loop .inv .0 in
-    let e = c .before .before .before .before .before .before .perform-at .ensures in
-    rw (c .before .moved .ensures)
-    (going-step l e (c .before .before .before .before .before .before .before .before .before .loop-test .taken) (c .before .before .if1 .left), search needs)
+    let i = c .before .before .before .before .before .before .before .before .before .before .loop .inv in
+    let room = c .before .before .before .before .before .before .before .before .if1 .taken in
+    rw (c .moved .ensures)
+    (going-step (i .0) (c .before .before .before .before .before .perform-at .ensures) (omega (arith, i .2, i .3)) (c .before .if2 .left), search needs, i .2, i .3)
+
+sub-t16 : tie.Need-sub-t16 Inv-loop μ-loop
+sub-t16 c = let i = c .before .before .before .loop .inv in omega (arith, i .0 .cycles, i .2)
 
 same-length-2 : tie.Need-same-length-2 Inv-loop μ-loop
 same-length-2 c = search needs
 
 returns-2 : tie.Need-returns-2 Inv-loop μ-loop
-returns-2 c = going-short (c .before .loop .inv .0) (c .loop-test .left)
+returns-2 c = let i = c .before .before .before .loop .inv in rw (i .2) (going-short (i .0) (omega (arith, c .before .if1 .left, i .2, i .3)))
 
 pub whole-spec : {M : Type 1} → statement M
-whole-spec = tie.close (tie.spec Inv-loop μ-loop loop-holds add-loop perform-at-requires same-length returns moved-requires cast-used add-used loop-less loop-again same-length-2 returns-2)
+whole-spec = tie.close (tie.spec Inv-loop μ-loop add-end loop-holds add-if1 perform-at-requires sub-t15 same-length returns moved-requires loop-less loop-again sub-t16 same-length-2 returns-2)
