@@ -7,11 +7,15 @@ use lib.Dec.{leb, eqb}
 use borrow.Author.Tests.{le-leb, lt-leb, eq-eqb}
 use Rattle.bits.proofs.Tests.{nonzero-by}
 use Rattle.memory.specs.declared.Board.{Board}
+use Rattle.memory.specs.declared.Fetched.{Fetched}
+use Rattle.memory.specs.declared.Fetched.the-variants.{Blank}
 use Rattle.memory.specs.Memory.{Memory, memoryOf, wordAt}
 use Rattle.registers.specs.State.{state}
 use Rattle.semantics.specs.declared.Performed.{Performed}
 use Rattle.semantics.specs.Perform.{Result, resultOf, performs}
 use Rattle.semantics.proofs.Stopped.{stopped-unchanged}
+use Rattle.stops.specs.Numbers.{noWord}
+use Rattle.stops.specs.Stops.{due}
 use mathlib.Core.Path.{_≡_, refl, sym, ap, _∙_}
 use native.Mathlib.Omega.{arith}
 use native.Mathlib.Nat.{zero-add, add-zero}
@@ -123,6 +127,14 @@ module _ {budget : ℕ} {s : Stretch} {b₀ : Between} {n : Board} {g : List ℕ
 
   pub going-short : b₀ .counts .cycles + budget < b .counts .cycles + longest → stretch used (between g b n mem) ≡ s
   going-short h = ended (ends-short (budget - l .u) (plainly g b n mem) (b .counts .retired) (b .counts .cycles) (l .most) (omega (arith, l .cycles)))
+
+  -- where there is no word, 21 is met
+  no-word-met : Blank ≡ wordAt (memoryOf n mem) (b .a) → noWord ≡ stopMet (plainly g b n mem)
+  unfolding stopMet plain.performedAt performs due
+  no-word-met e = ap (λ (x : Fetched). performs x (state g (b .flags) (b .a) (memoryOf n mem)) .performed .stop) e
+
+  pub going-blank : Blank ≡ wordAt (memoryOf n mem) (b .a) → stretch used (between g b n mem) ≡ s
+  going-blank e = ended (ends-stop (budget - l .u) (plainly g b n mem) (b .counts .retired) (b .counts .cycles) (l .most) (no-word-met e) (λ z. omega arith))
 
   -- what performing the word there tells
   module _ {r : Performed} {h new : List ℕ} (e : resultOf r h (memoryOf n new) ≡ performs (wordAt (memoryOf n mem) (b .a)) (state g (b .flags) (b .a) (memoryOf n mem))) where

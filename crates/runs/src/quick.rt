@@ -20,7 +20,7 @@ use memory::Fetched;
 use memory::fetch;
 use plain::numbers::MOST_BYTES;
 use semantics::Performed;
-use semantics::perform::perform_at;
+use semantics::perform::perform;
 use steps::Latches;
 use steps::Phase;
 
@@ -43,7 +43,7 @@ fn moved(at: Between, r: Performed) -> Between
     }
 }
 
-// Whole instructions while the longest fits and no stop is met.
+// Whole instructions while the longest fits and no stop is met, each with its word at hand.
 fn whole(
     registers: &mut [u32; 15],
     memory: &mut [u8],
@@ -58,14 +58,24 @@ fn whole(
     let end = start + budget;
     let mut here = at;
     while here.counts.cycles + LONGEST <= end {
-        let r = perform_at(registers, memory, here.flags, here.a, board);
-        if r.stop != 0 {
-            return BetweenAfter {
-                used: here.counts.cycles - start,
-                at: here,
-            };
+        match fetch(memory, board, here.a) {
+            Fetched::Word(word) => {
+                let r = perform(word, registers, memory, here.flags, here.a, board);
+                if r.stop != 0 {
+                    return BetweenAfter {
+                        used: here.counts.cycles - start,
+                        at: here,
+                    };
+                }
+                here = moved(here, r);
+            }
+            Fetched::Blank => {
+                return BetweenAfter {
+                    used: here.counts.cycles - start,
+                    at: here,
+                };
+            }
         }
-        here = moved(here, r);
     }
     BetweenAfter {
         used: here.counts.cycles - start,
