@@ -1,6 +1,6 @@
 -- Tests of a number that a call gave, said of what the number is; and tests of an order, negated.
 -- Assumes nothing.
-use mathlib.Core.Path.{_≡_, refl, sym, ap, _∙_}
+use mathlib.Core.Path.{_≡_, refl, sym, _∙_}
 use mathlib.Core.Bool.{Bool, true, false, not}
 use Prim.Native.Nat.{ℕ}
 use lib.Dec.{ltb, leb, eqb}

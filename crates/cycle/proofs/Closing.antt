@@ -3,11 +3,9 @@
 use Prim.Native.Nat.{ℕ}
 use mathlib.Core.Path.{_≡_, sym, ap, _∙_}
 use mathlib.Core.Bool.{Bool, true, false}
-use mathlib.Core.List.{List}
 use Rattle.bits.specs.Bits.{field}
 use Rattle.word.specs.Reader.{readOf}
 use Rattle.condition.specs.Condition.{passes}
-use Rattle.memory.specs.declared.Fetched.{Fetched}
 use Rattle.memory.specs.declared.Fetched.the-variants.{Word, Blank}
 use Rattle.memory.specs.Memory.{Memory}
 use Rattle.stops.specs.Stops.{due}
@@ -20,7 +18,7 @@ use Rattle.steps.specs.declared.After.the-variants.{More, Done}
 use Rattle.steps.specs.Steps.{Own, first, later}
 use Rattle.cycle.specs.declared.Pipe.{Pipe}
 use Rattle.cycle.specs.Machine.{Machine, lent}
-use Rattle.cycle.specs.Cycle.{refilled, skips, quiet, firstDue, laterOf, ownOf, fetches, close, cycle}
+use Rattle.cycle.specs.Cycle.{refilled, skips, quiet, ownOf, fetches, close, cycle}
 
 module _ (m : Machine) {r : Own} where
   -- step 1 of a word: its condition passes, or fails

@@ -1,11 +1,8 @@
 -- A fetch gives the word inside memory, and blank outside.
 -- Assumes nothing.
-use mathlib.Core.Path.{_≡_}
-use Prim.Native.Nat.{ℕ, _≤_, _<_}
 use native.Mathlib.Omega.{arith}
-use lib.ListN.{length}
 use borrow.Author.Tests.{lt-ltb, le-ltb}
-use Rattle.memory.specs.Memory.{Memory, place, limit, wordAt}
+use Rattle.memory.specs.Memory.{place, limit, wordAt}
 use Rattle.memory.specs.Fetches.{Fetches}
 use Rattle.memory.proofs.ByteLaws.{holds-word, read-held}
 

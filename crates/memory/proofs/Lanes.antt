@@ -8,7 +8,7 @@ use native.Mathlib.Omega.{arith}
 use lib.ListN.{length, getD}
 use Rattle.bits.specs.Bits.{field}
 use Rattle.memory.specs.Bytes.{wordBase, holdsWord, loadWord, wordIn, withWord, byteIn, withByte}
-use Rattle.memory.specs.Memory.{Memory, place, limit}
+use Rattle.memory.specs.Memory.{place, limit}
 use Rattle.memory.specs.Lanes.{lane, Bytes, Lanes}
 use Rattle.memory.proofs.ByteLaws.{read-held, read-same-word, holds-word, write-length, write-byte-length, write-bytes, write-byte-bytes, byte-other, byte-other-byte, read-back, read-byte-back}
 

@@ -1,10 +1,10 @@
 -- A run that ends before its first cycle, refused or with a stop held, and one that goes on.
 -- Assumes nothing.
-use Prim.Native.Nat.{ℕ, zero, suc}
+use Prim.Native.Nat.{ℕ}
 use mathlib.Core.Path.{_≡_, refl, sym, ap, _∙_}
 use mathlib.Core.Bool.{Bool, true, false}
 use lib.Dec.{eqb}
-use borrow.Author.Tests.{eq-eqb, ne-eqb, eqb-true, eqb-false}
+use borrow.Author.Tests.{eq-eqb, ne-eqb, eqb-true}
 use Rattle.bits.specs.Choice.{pick}
 use Rattle.cycle.specs.Machine.{Machine}
 use Rattle.refusals.specs.Numbers.{refusal, atOnce}

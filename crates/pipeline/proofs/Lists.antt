@@ -2,7 +2,7 @@
 -- Assumes nothing.
 use Prim.Native.Nat.{ℕ, zero, suc, pred, _+_, _-_, _%_, _≤_, _<_}
 use mathlib.Core.Path.{_≡_, refl, sym, ap, subst, _∙_}
-use mathlib.Core.List.{List, [], _∷_}
+use mathlib.Core.List.{List}
 use mathlib.Core.Bool.{Bool, true, false, not, _||_, _&&_, false≢true}
 use mathlib.Core.Logic.{_⊎_, inl, inr, ⊎-elim}
 use native.Mathlib.Omega.{arith}
@@ -15,7 +15,7 @@ use Rattle.bits.specs.Choice.{pick}
 use Rattle.plain.specs.Machine as plain
 use Rattle.plain.specs.Numbers.{mostBytes, badLength, isStop, startAnswer}
 use Rattle.plain.specs.Run as plain-calls
-use Rattle.plain.specs.Trace.{trace, stopMet, duration, durations, Does}
+use Rattle.plain.specs.Trace.{trace, stopMet, durations, Does}
 use Rattle.plain.proofs.Accepted as plain-start
 use Rattle.steps.specs.declared.Phase.{Phase}
 use Rattle.steps.specs.declared.Phase.the-variants.{Step1, Refill1, Refill2, Later}
@@ -38,7 +38,7 @@ use Rattle.runs.specs.Boundary.{boundary, lead}
 use Rattle.pipeline.proofs.Calls.{ends-by}
 use Rattle.pipeline.proofs.Keeps.{reach-alike}
 use Rattle.runs.proofs.Flight.{Aloft, Flight}
-use Rattle.runs.proofs.PlainSteps.{duration-flight, flight, Stop, stop-met}
+use Rattle.runs.proofs.PlainSteps.{duration-flight, Stop, stop-met}
 use Rattle.pipeline.proofs.Position.{Pos, advance, beginning, plainBeginning, started, sums-step, ranged}
 use Rattle.runs.proofs.PlainSteps.{boundary-stop}
 

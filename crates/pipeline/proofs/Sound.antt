@@ -1,6 +1,6 @@
 -- A core that passes the test for a bad record passes it after a cycle.
 -- Assumes nothing.
-use Prim.Native.Nat.{ℕ, zero, suc, _+_, _-_, _%_, _^_, _≤_, _<_}
+use Prim.Native.Nat.{ℕ, zero, suc, _+_, _-_, _%_, _≤_, _<_}
 use mathlib.Core.Path.{_≡_, refl, sym, ap, _∙_}
 use mathlib.Core.List.{List, [], _∷_}
 use mathlib.Core.Bool.{Bool, true, false, not, false≢true}
@@ -27,13 +27,12 @@ use Rattle.registers.specs.declared.Goes.the-variants.{Next, To}
 use Rattle.registers.specs.State.{State, state}
 use Rattle.registers.specs.Registers.{arrives}
 use Rattle.processing.specs.Processing.{processed, byRegister?}
-use Rattle.transfer.specs.Single as single
 use Rattle.transfer.specs.Block as block
 use Rattle.semantics.specs.Branch.{branched}
 use Rattle.semantics.specs.Duration.{ownSteps}
 use Rattle.stops.specs.Rules.{ruleBroken}
 use Rattle.stops.specs.Moves.{movesOf, span}
-use Rattle.stops.specs.Stops.{Due, no-word, skipped, executes, due, outside, stopDue, stopFor}
+use Rattle.stops.specs.Stops.{Due, skipped, executes, due, outside, stopDue, stopFor}
 use Rattle.stops.proofs.StopOrder.{from-span}
 use Rattle.stops.proofs.BrokenRules.{rule-alike}
 use Rattle.steps.specs.declared.Phase.{Phase}
@@ -47,8 +46,8 @@ use Rattle.cycle.specs.declared.Pipe.{Pipe}
 use Rattle.cycle.specs.declared.Counts.{Counts}
 use Rattle.plain.specs.Numbers.{mostBytes}
 use Rattle.cycle.specs.Machine.{Machine, machine, lent, stateOf, pipe}
-use Rattle.steps.specs.Steps.{Own, own, last, ends, still, nextToMove, first, later, loadLater, storeLater, loadStep, blockLoadLater, storeStep, blockStoreLater}
-use Rattle.cycle.specs.Cycle.{cycle, firstDue, laterOf, ownOf, fetches, pipeAfter, phaseAfter, retiredBy}
+use Rattle.steps.specs.Steps.{Own, ends, nextToMove, first, later, loadLater, storeLater, loadStep, blockLoadLater, storeStep, blockStoreLater}
+use Rattle.cycle.specs.Cycle.{cycle, firstDue, ownOf, fetches, pipeAfter, phaseAfter, retiredBy}
 use Rattle.cycle.specs.StopFound.{isStep1, stopFound}
 use Rattle.refusals.specs.Numbers.{leftToMove, stateLater, badWithin, badStep, badPhase}
 use Rattle.steps.proofs.Both.{or-false}

@@ -1,21 +1,21 @@
 -- The trace is what the machine's own runs come to.
 -- Assumes nothing.
-use Prim.Native.Nat.{ℕ, zero, suc, _+_, _≤_, _<_}
-use mathlib.Core.Path.{_≡_, refl, sym, ap, subst, _∙_}
-use mathlib.Core.Logic.{_≢_, ⊎-elim}
-use native.Mathlib.Nat.{add-zero, eq-or-lt-of-le, le-of-suc-le-suc}
+use Prim.Native.Nat.{ℕ, zero, suc, _+_, _<_}
+use mathlib.Core.Path.{_≡_, refl, sym, ap, _∙_}
+use mathlib.Core.Logic.{_≢_}
+use native.Mathlib.Nat.{add-zero}
 use native.Mathlib.Omega.{arith}
 use mathlib.Core.Bool.{Bool, true, false}
 use lib.Dec.{eqb}
 use lib.ListN.{length}
 use borrow.Author.Tests.{eqb-false}
 use Rattle.bits.specs.Choice.{pick}
-use Rattle.plain.specs.Machine.{Machine, performedAt, step}
+use Rattle.plain.specs.Machine.{Machine, step}
 use Rattle.plain.specs.Numbers.{refusal}
 use Rattle.plain.specs.Running.{Ran, ran, oneMore, runs}
 use Rattle.plain.specs.Run.{engine, runFrom, run}
 use Rattle.plain.proofs.Running.{found}
-use Rattle.plain.specs.Trace.{trace, stopMet, Does, Halted, Traced}
+use Rattle.plain.specs.Trace.{trace, stopMet, Does, Traced}
 
 -- a step, and then k more
 trace-front : (m : Machine) (k : ℕ) → trace (step m) k ≡ trace m (suc k)

@@ -14,7 +14,6 @@ use Rattle.memory.specs.Memory.{Memory, place, writeWord, writeByte, wordAt}
 use Rattle.memory.proofs.Laws.{word-at-other, word-at-other-byte}
 use Rattle.transfer.specs.Single.{storedValue, storedTo}
 use Rattle.transfer.specs.Block.{stores, storesAll, next}
-use Rattle.transfer.proofs.Lengths.{Alike, written-alike}
 use Rattle.stops.specs.Moves.{span}
 use Rattle.stops.specs.Stops.{hits}
 use Rattle.steps.proofs.Both.{or-false}

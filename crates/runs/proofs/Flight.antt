@@ -18,7 +18,7 @@ use Rattle.registers.specs.declared.Goes.the-variants.{Next, To}
 use Rattle.semantics.specs.Duration.{ownSteps, refills, nextAddress}
 use Rattle.plain.specs.Machine as plain
 use Rattle.steps.specs.declared.Phase.{Phase}
-use Rattle.steps.specs.declared.Phase.the-variants.{Step1, Refill1, Refill2, Later}
+use Rattle.steps.specs.declared.Phase.the-variants.{Step1}
 use Rattle.steps.specs.declared.Ended.the-variants.{Executed}
 use Rattle.steps.specs.declared.After.the-variants.{Done}
 use Rattle.steps.specs.declared.Latches.{Latches}

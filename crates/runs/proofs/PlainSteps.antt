@@ -6,11 +6,10 @@ use mathlib.Core.Bool.{Bool, true, false, not, _||_}
 use mathlib.Core.Logic.{_⊎_, inl, inr}
 use native.Mathlib.Omega.{arith}
 use lib.Dec.{eqb}
-use borrow.Author.Tests.{ne-eqb, eqb-true}
 use Rattle.bits.specs.Choice.{pick}
 use Rattle.word.specs.declared.Instruction.{Instruction}
 use Rattle.word.specs.Reader.{isOther}
-use Rattle.datapath.specs.Counter.{ahead, counter, counters}
+use Rattle.datapath.specs.Counter.{ahead, counters}
 use Rattle.datapath.proofs.Counters.{ahead-lt, behind-ahead, counter-lt}
 use Rattle.memory.specs.declared.Fetched.{Fetched}
 use Rattle.memory.specs.Memory.{wordAt}
@@ -24,8 +23,8 @@ use Rattle.stops.specs.Stops as stops
 use Rattle.stops.specs.Stops.{Due, no-word, skipped, executes, due, stopDue, stopFor}
 use Rattle.semantics.specs.Effect as effects
 use Rattle.semantics.specs.Effect.{Effect}
-use Rattle.semantics.specs.Duration.{ownSteps, refills, nextAddress}
-use Rattle.semantics.specs.Perform.{stopped, executed, performedDue, performs}
+use Rattle.semantics.specs.Duration.{refills, nextAddress}
+use Rattle.semantics.specs.Perform.{executed, performedDue, performs}
 use Rattle.semantics.proofs.Durations.{refills-short, steps-short}
 use Rattle.semantics.proofs.Stopped.{stopped-unchanged}
 use Rattle.plain.specs.Machine as plain
@@ -36,7 +35,7 @@ use Rattle.cycle.specs.StopFound.{stopFound}
 use Rattle.cycle.specs.Cycle.{cycle}
 use Rattle.runs.specs.Boundary.{boundary}
 use Rattle.runs.proofs.Flight.{Flight, climb, more, plainAt}
-use Rattle.runs.proofs.Instruction.{extra, own-steps, leaves, extraDue, effectDue, flies}
+use Rattle.runs.proofs.Instruction.{own-steps, leaves, extraDue, effectDue, flies}
 
 abbrev wordOf : plain.Machine → Fetched
 wordOf p = wordAt (plain.stateOf p .memory) (p .plain .a)

@@ -22,14 +22,13 @@ use Rattle.cycle.specs.declared.Control.{Control}
 use Rattle.runs.specs.declared.Between.{Between}
 use Rattle.plain.specs.Numbers.{mostBytes}
 use Rattle.cycle.specs.Machine.{Machine, machine, mostCycles}
-use Rattle.cycle.specs.StopFound.{stopFound}
 use Rattle.cycle.specs.Cycle.{cycle}
 use Rattle.plain.specs.Running.{Ran, ran, moreBy}
 use Rattle.plain.proofs.Running as running
 use Rattle.runs.specs.Run.{engine, runFrom}
 use Rattle.runs.specs.Boundary.{boundary}
 use Rattle.runs.specs.Whole.{Stretch, stretch, longer, untilStep1, plainly, between, longest, wholes, same, clear, sized, filled, stands, placed, skipped, Continues, QuickRoad}
-use Rattle.cycle.specs.StopFound.{isStep1, stopFound}
+use Rattle.cycle.specs.StopFound.{isStep1}
 use Rattle.steps.proofs.Both.{and-true}
 use Rattle.cycle.proofs.StopFound.{no-stop}
 use Rattle.runs.proofs.PlainSteps.{step-range, step-board}

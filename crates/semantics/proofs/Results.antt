@@ -1,11 +1,10 @@
 -- What the functions of `perform` join: the parts of an instruction, and a stop or an effect.
 -- Assumes nothing.
-use Prim.Native.Nat.{ℕ, zero, _+_}
+use Prim.Native.Nat.{ℕ, _+_}
 use mathlib.Core.Path.{_≡_, refl, sym, ap, _∙_}
-use mathlib.Core.Bool.{Bool, true, false}
+use mathlib.Core.Bool.{true, false}
 use mathlib.Core.List.{List}
 use native.Mathlib.Omega.{arith}
-use Rattle.bits.specs.Choice.{pick}
 use Rattle.bits.specs.Bits.{field}
 use Rattle.bits.proofs.Tests.{zero-by, nonzero-by}
 use Rattle.word.specs.declared.Processing.{Processing}

@@ -1,17 +1,15 @@
 -- A stop changes only the stop, proved.
 -- Assumes nothing.
 use Prim.Native.Nat.{ℕ}
-use mathlib.Core.Path.{_≡_, refl, sym}
+use mathlib.Core.Path.{_≡_, refl}
 use mathlib.Core.Bool.{Bool, true, false}
 use mathlib.Core.Logic.{_≢_}
 use lib.Dec.{eqb}
 use borrow.Author.Tests.{ne-eqb, eqb-true}
-use Rattle.bits.specs.Choice.{pick}
-use Rattle.word.specs.declared.Instruction.{Instruction}
 use Rattle.memory.specs.declared.Fetched.{Fetched}
 use Rattle.registers.specs.State.{State}
 use Rattle.stops.specs.Stops.{Due, no-word, skipped, executes, due, stopOf, stopDue, stopFor}
-use Rattle.semantics.specs.Perform.{Result, stopped, executed, performedDue, performs}
+use Rattle.semantics.specs.Perform.{stopped, executed, performedDue, performs}
 use Rattle.semantics.specs.Stopped.{Unchanged, Stopped}
 
 module _ (s : State) where

@@ -1,7 +1,7 @@
 -- Whether an instruction stores the counter goes by its word alone.
 -- Assumes nothing.
-use Prim.Native.Nat.{ℕ, zero, suc, _+_}
-use mathlib.Core.Path.{_≡_, refl, ap}
+use Prim.Native.Nat.{ℕ, zero, suc}
+use mathlib.Core.Path.{_≡_, refl}
 use mathlib.Core.Bool.{Bool, true, false, not, _&&_}
 use mathlib.Core.List.{List, [], _∷_}
 use native.Mathlib.Omega.{arith}
@@ -13,10 +13,8 @@ use Rattle.word.specs.declared.Block.{Block}
 use Rattle.word.specs.declared.Instruction.{Instruction}
 use Rattle.datapath.specs.Alu.{storesResult}
 use Rattle.memory.specs.Memory.{Memory, readWord}
-use Rattle.registers.specs.declared.Goes.{Goes}
 use Rattle.registers.specs.declared.Goes.the-variants.{Next, To}
 use Rattle.registers.specs.Registers.{out, put, arrives}
-use Rattle.registers.specs.State.{State}
 use Rattle.processing.specs.Processing.{processed, stored}
 use Rattle.transfer.specs.Block as block
 use Rattle.transfer.proofs.NamedRegisters.{Rising, named-rising}

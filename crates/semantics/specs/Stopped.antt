@@ -1,5 +1,4 @@
 -- A stop changes only the stop (paper 01, "Plain machine").
-use Prim.Native.Nat.{ℕ}
 use mathlib.Core.Path.{_≡_}
 use mathlib.Core.Logic.{_≢_}
 use Rattle.memory.specs.declared.Fetched.{Fetched}

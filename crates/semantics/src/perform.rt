@@ -1,7 +1,6 @@
 // An instruction word in a state: skipped, stopped or done. The registers and the memory are lent, the rest goes by value.
 ghost use mathlib.Core.Path.{_≡_};
-ghost use mathlib.Core.List.{List};
-ghost use Prim.Native.Nat.{ℕ, _+_, _≤_};
+ghost use Prim.Native.Nat.{_+_, _≤_};
 ghost use Rattle.word.specs.declared.Instruction.{Instruction};
 ghost use Rattle.word.specs.Reader.{readOf};
 ghost use Rattle.transfer.specs.Block.{named, loads};

@@ -1,5 +1,5 @@
 -- What an instruction does in each of its own steps (paper 01, the table of "Pipeline"), besides the fetch.
-use Prim.Native.Nat.{ℕ, zero, suc, _+_, _-_, _%_, _^_}
+use Prim.Native.Nat.{ℕ, zero, suc, _+_, _-_}
 use mathlib.Core.List.{List, [], _∷_, tail}
 use lib.ListN.{getD, drop}
 use Rattle.bits.specs.Choice.{pick}

@@ -3,7 +3,7 @@ use Prim.Native.Nat.{ℕ, _^_, _<_}
 use mathlib.Core.Path.{_≡_}
 use Rattle.word.specs.declared.Instruction.{Instruction}
 use Rattle.word.specs.Reader.{readOf}
-use Rattle.writer.specs.Writer.{Answer, writeOf}
+use Rattle.writer.specs.Writer.{writeOf}
 
 pub record Term2 : Type 0 where
   -- each of the 2^32 words writes back as it was read

@@ -1,6 +1,5 @@
 -- The lesser of the two. Assumes nothing.
 use native.Mathlib.Omega.{arith}
-use borrow.Author.Needs.{needs}
 use lib.ListN.{length-take}
 use Rattle.tokens.proofs.buffer.bytes.Statement.{statement}
 use Rattle.tokens.proofs.buffer.bytes.Tie as tie
