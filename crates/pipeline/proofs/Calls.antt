@@ -4,21 +4,15 @@ use Prim.Native.Nat.{ℕ}
 use mathlib.Core.Path.{_≡_, refl, sym, ap, _∙_}
 use mathlib.Core.Bool.{Bool, true, false}
 use lib.Dec.{eqb}
-use borrow.Author.Tests.{eq-eqb, ne-eqb, eqb-true}
+use borrow.Author.Tests.{eqb-true}
 use Rattle.bits.specs.Choice.{pick}
 use Rattle.cycle.specs.Machine.{Machine}
 use Rattle.refusals.specs.Numbers.{refusal, atOnce}
 use Rattle.refusals.proofs.Refusals.{Granted, granted}
 use Rattle.plain.specs.Running.{Ran, ran, unless}
+use Rattle.plain.proofs.Running.{ends-by, goes-by}
 use Rattle.runs.specs.Run.{runFrom}
 use Rattle.pipeline.specs.Calls.{run}
-
-module _ (m : Machine) (r : Ran Machine) (q : ℕ) where
-  pub ends-by : (q ≡ 0 → ⊥) → ran q 0 m ≡ unless q m r
-  ends-by n = rw (ne-eqb q 0 n)
-
-  pub goes-by : q ≡ 0 → r ≡ unless q m r
-  goes-by z = rw (eq-eqb q 0 z)
 
 -- one number for both
 either : (m : Machine) (r : Ran Machine) (x y : ℕ) → unless (pick (eqb x 0) y x) m r ≡ unless x m (unless y m r)
@@ -34,10 +28,10 @@ module _ (lent budget : ℕ) (m : Machine) {q : ℕ} (e : q ≡ atOnce lent budg
   run-is = ap (λ x. unless x m (runFrom budget m)) e ∙ either m (runFrom budget m) (refusal lent budget m) (m .control .stop)
 
   pub ended : (q ≡ 0 → ⊥) → ran q 0 m ≡ run lent budget m
-  ended n = ends-by m (runFrom budget m) q n ∙ run-is
+  ended n = ends-by m (runFrom budget m) refl n ∙ run-is
 
   pub begun : q ≡ 0 → {r : Ran Machine} → r ≡ runFrom budget m → r ≡ run lent budget m
-  begun z w = w ∙ goes-by m (runFrom budget m) q z ∙ run-is
+  begun z w = w ∙ goes-by m (runFrom budget m) refl z ∙ run-is
 
   pub room : q ≡ 0 → Granted budget (m .control)
   room z = granted lent budget m (go (eqb (refusal lent budget m) 0) refl (sym e ∙ z))

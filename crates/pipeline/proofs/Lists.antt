@@ -35,7 +35,6 @@ use Rattle.runs.specs.Run.{holding, engine, runFrom}
 use Rattle.pipeline.specs.Term3.{fresh, plainFresh, Begins, sums, Stops, Call, lend, call, Reply, reply, replyOf, Accepted, Refused, Calls, no-calls, accepted, refused, Answers, other-length, too-many, too-far, repeats, stops, spends, AllAnswer, none, more, Never, never-none, never-more}
 use Rattle.pipeline.specs.Term3.{reach, Greatest, Leaves, Further, Follows, Term3}
 use Rattle.runs.specs.Boundary.{boundary, lead}
-use Rattle.pipeline.proofs.Calls.{ends-by}
 use Rattle.pipeline.proofs.Keeps.{reach-alike}
 use Rattle.runs.proofs.Flight.{Aloft, Flight}
 use Rattle.runs.proofs.PlainSteps.{duration-flight, Stop, stop-met}
@@ -286,7 +285,7 @@ module _ (p : plain.Machine) (m₀ : Machine) (r₀ : p .plain .a < counters) (s
     accept : (c : Call) (t q : ℕ) → Accepted n t c → Here t q → Result c t q (unless q (holding (reach m₀ t) q) (runFrom (c .budget) (holding (reach m₀ t) q)))
     accept c t zero a h = rw (holding-none (reach m₀ t) (reach-stop m₀ t ∙ no-stop)) (ran-on c t a (running (c .budget) (h .pos)))
     accept c t (suc q) a h =
-        subst (Result c t (suc q)) (ends-by (holding (reach m₀ t) (suc q)) _ (suc q) (λ e. omega arith))
+        subst (Result c t (suc q)) (loops.ends-by (holding (reach m₀ t) (suc q)) _ refl (λ e. omega arith))
         (t, omega arith, (suc q, repeats a (λ e. omega arith), refl, h))
 
     -- what a run refuses with, at total t

@@ -1,5 +1,4 @@
 pub mod Accepted
 pub mod Running
-pub mod Entry
 pub mod Traces
 pub mod Refusals

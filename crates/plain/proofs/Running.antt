@@ -1,10 +1,19 @@
--- What is left to run after u steps, of either engine.
+-- A call that ends before its first step or goes on, and what is left to run after u steps, of either engine.
 -- Assumes nothing.
 use Prim.Native.Nat.{ℕ, zero, suc, _+_, _≤_, _<_}
 use mathlib.Core.Path.{_≡_, refl, sym, ap, _∙_}
 use native.Mathlib.Nat.{zero-add, add-zero}
 use native.Mathlib.Omega.{arith}
-use Rattle.plain.specs.Running.{Ran, ran, oneMore, moreBy, Engine, runs}
+use borrow.Author.Tests.{eq-eqb, ne-eqb}
+use Rattle.plain.specs.Running.{Ran, ran, oneMore, moreBy, Engine, runs, unless}
+
+-- a call that a number ends, and one that goes on
+module _ {M : Type 0} (m : M) (r : Ran M) {q x : ℕ} (e : q ≡ x) where
+  pub ends-by : (q ≡ 0 → ⊥) → ran q 0 m ≡ unless x m r
+  ends-by n = rw (← e, ne-eqb q 0 n)
+
+  pub goes-by : q ≡ 0 → r ≡ unless x m r
+  goes-by z = rw (← e, eq-eqb q 0 z)
 
 module _ {M : Type 0} (e : Engine M) where
   -- by the stop that is found

@@ -1,16 +1,24 @@
+use mathlib.Core.Path.{refl, _∙_}
+use Rattle.plain.specs.Run.{run}
 use borrow.Author.Needs.{needs}
-use Rattle.plain.proofs.Entry.{run-refused, run-held, run-free}
+use Rattle.plain.proofs.Running.{ends-by, goes-by}
 use Rattle.plain.proofs.Plain.run.Statement.{statement}
 use Rattle.plain.proofs.Plain.run.Tie as tie
 
 returns : tie.Need-returns
-returns c = run-refused _ _ (c .before .refusal .ensures) (c .if1 .taken)
+unfolding run
+returns c = ends-by _ _ (c .before .refusal .ensures) (c .if1 .taken)
 
 returns-2 : tie.Need-returns-2
-returns-2 c = run-held _ _ (c .before .before .before .refusal .ensures) (c .before .before .if1 .left) (c .if2 .taken)
+unfolding run
+returns-2 c = ends-by _ _ refl (c .if2 .taken) ∙ goes-by _ _ (c .before .before .before .refusal .ensures) (c .before .before .if1 .left)
 
 returns-3 : tie.Need-returns-3
-returns-3 c = run-free _ _ (c .before .before .before .before .before .before .before .before .before .before .before .refusal .ensures) (c .before .before .before .before .before .before .before .before .before .before .if1 .left) (c .before .before .before .before .before .before .before .before .if2 .left) (c .before .before .before .run-from .ensures)
+unfolding run
+returns-3 c =
+    c .before .before .before .run-from .ensures
+    ∙ goes-by _ _ refl (c .before .before .before .before .before .before .before .before .if2 .left)
+    ∙ goes-by _ _ (c .before .before .before .before .before .before .before .before .before .before .before .refusal .ensures) (c .before .before .before .before .before .before .before .before .before .before .if1 .left)
 
 pub run-spec : {M : Type 1} → statement M
 run-spec = tie.close (tie.spec (λ c κs. search needs) returns returns-2 (λ c κs. search needs) (λ c. search needs) returns-3)
