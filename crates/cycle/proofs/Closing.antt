@@ -15,7 +15,7 @@ use Rattle.steps.specs.declared.Ended.{Ended}
 use Rattle.steps.specs.declared.Ended.the-variants.{Start}
 use Rattle.steps.specs.declared.After.{After}
 use Rattle.steps.specs.declared.After.the-variants.{More, Done}
-use Rattle.steps.specs.Steps.{Own, first, later}
+use Rattle.steps.specs.Steps.{Own, firstStep, laterStep}
 use Rattle.cycle.specs.declared.Pipe.{Pipe}
 use Rattle.cycle.specs.Machine.{Machine, lent}
 use Rattle.cycle.specs.Cycle.{refilled, skips, quiet, ownOf, fetches, close, cycle}
@@ -23,7 +23,7 @@ use Rattle.cycle.specs.Cycle.{refilled, skips, quiet, ownOf, fetches, cl
 module _ (m : Machine) {r : Own} where
   -- step 1 of a word: its condition passes, or fails
   module _ {w n : ℕ} {b : Bool} (ix : m .control .pipe .ix ≡ Word w) (e : n ≡ field w 28 4) (p : b ≡ passes n (m .control .flags)) where
-    pub passing : b ≡ true → r ≡ first (readOf w) (m .registers) (m .control .flags) (m .control .pipe .pc) (lent m) → r ≡ ownOf Step1 m
+    pub passing : b ≡ true → r ≡ firstStep (readOf w) (m .registers) (m .control .flags) (m .control .pipe .pc) (lent m) → r ≡ ownOf Step1 m
     unfolding ownOf due
     passing t q = q ∙ rw (ix, ← e, ← p, t)
 
@@ -41,7 +41,7 @@ module _ (m : Machine) {r : Own} where
     blank-later e q = q ∙ rw e
 
     pub word-later : {w : ℕ} → m .control .pipe .ix ≡ Word w
-        → r ≡ later (readOf w) k (m .registers) (m .control .flags) (m .control .pipe .pc) (m .control .latches) (lent m) → r ≡ ownOf (Later k) m
+        → r ≡ laterStep (readOf w) k (m .registers) (m .control .flags) (m .control .pipe .pc) (m .control .latches) (lent m) → r ≡ ownOf (Later k) m
     unfolding ownOf
     word-later e q = q ∙ rw e
 

@@ -12,7 +12,7 @@ use Rattle.steps.specs.declared.Ended.{Ended}
 use Rattle.steps.specs.declared.Ended.the-variants.{Start, Skipped, Executed}
 use Rattle.steps.specs.declared.After.{After}
 use Rattle.steps.specs.declared.After.the-variants.{More, Done, Jump}
-use Rattle.steps.specs.Steps.{Own, own, still, first, later}
+use Rattle.steps.specs.Steps.{Own, own, still, firstStep, laterStep}
 use Rattle.cycle.specs.declared.Pipe.{Pipe}
 use Rattle.cycle.specs.declared.Counts.{Counts}
 use Rattle.cycle.specs.declared.Control.{Control}
@@ -35,12 +35,12 @@ quiet m e = own (m .registers) (still (m .control .flags) e) (lent m)
 abbrev pub firstDue : Due → Machine → Own
 firstDue no-word m = quiet m (Done Start)
 firstDue skipped m = quiet m (skips (m .control .pipe .pc))
-firstDue (executes i) m = first i (m .registers) (m .control .flags) (m .control .pipe .pc) (lent m)
+firstDue (executes i) m = firstStep i (m .registers) (m .control .flags) (m .control .pipe .pc) (lent m)
 
 -- step k + 2 of the word in IX
 abbrev pub laterOf : ℕ → Fetched → Machine → Own
 laterOf k Blank m = quiet m (Done Start)
-laterOf k (Word w) m = later (readOf w) k (m .registers) (m .control .flags) (m .control .pipe .pc) (m .control .latches) (lent m)
+laterOf k (Word w) m = laterStep (readOf w) k (m .registers) (m .control .flags) (m .control .pipe .pc) (m .control .latches) (lent m)
 
 -- what the cycle of this phase does besides the fetch
 unfoldable pub ownOf : Phase → Machine → Own

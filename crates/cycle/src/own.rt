@@ -16,8 +16,8 @@ use steps::Ended;
 use steps::Phase;
 use steps::Step;
 use steps::ending::still;
-use steps::first::first;
-use steps::later::later;
+use steps::first::first_step;
+use steps::later::later_step;
 
 // How a failed condition ends, at A+8 in pc: its one step is done, and the counter goes on.
 fn skips(pc: u32) -> After
@@ -34,7 +34,7 @@ fn step1(c: Control, registers: &mut [u32; 15]) -> Step
     match ix {
         Fetched::Word(word) => {
             if passes(field(word, 28, 4), c.flags) {
-                first(word, registers, c.flags, pipe.pc)
+                first_step(word, registers, c.flags, pipe.pc)
             } else {
                 still(c.flags, skips(pipe.pc))
             }
@@ -43,7 +43,7 @@ fn step1(c: Control, registers: &mut [u32; 15]) -> Step
     }
 }
 
-fn step_later(c: Control, k: u32, registers: &mut [u32; 15], memory: &mut [u8]) -> Step
+fn step_under_way(c: Control, k: u32, registers: &mut [u32; 15], memory: &mut [u8]) -> Step
     ensures { λ r. ⌜ own (now (registers .exit)) r (memoryOf (c .board) (now (memory .exit))) ≡ ownOf (Later k) (machine (now (registers .entry)) c (now (memory .entry))) ⌝ }
 {
     let pipe = c.pipe;
@@ -51,7 +51,7 @@ fn step_later(c: Control, k: u32, registers: &mut [u32; 15], memory: &mut [u8]) 
     let l = c.latches;
     let board = c.board;
     match ix {
-        Fetched::Word(word) => later(word, k, registers, memory, c.flags, pipe.pc, l, board),
+        Fetched::Word(word) => later_step(word, k, registers, memory, c.flags, pipe.pc, l, board),
         Fetched::Blank => still(c.flags, After::Done(Ended::Start)),
     }
 }
@@ -77,6 +77,6 @@ pub fn own(c: Control, registers: &mut [u32; 15], memory: &mut [u8]) -> Step
         Phase::Step1 => step1(c, registers),
         Phase::Refill1 => still(c.flags, After::More(Phase::Refill2)),
         Phase::Refill2 => still(c.flags, After::Done(refilled(ix))),
-        Phase::Later(k) => step_later(c, k, registers, memory),
+        Phase::Later(k) => step_under_way(c, k, registers, memory),
     }
 }

@@ -34,7 +34,7 @@ use Rattle.steps.specs.declared.Phase.{Phase}
 use Rattle.steps.specs.declared.Phase.the-variants.{Step1, Refill1, Refill2, Later}
 use Rattle.steps.specs.declared.After.the-variants.{More}
 use Rattle.steps.specs.declared.Latches.{Latches}
-use Rattle.steps.specs.Steps.{Own, own, last, still, first, later, loadLater, storeLater, loadStep, blockLoadLater, storeStep, blockStoreLater}
+use Rattle.steps.specs.Steps.{Own, own, last, still, firstStep, laterStep, loadLater, storeLater, loadStep, blockLoadLater, storeStep, blockStoreLater}
 use Rattle.cycle.specs.Machine.{Machine, lent}
 use Rattle.cycle.specs.Cycle.{firstDue, laterOf, ownOf, cycle}
 use Rattle.pipeline.specs.Term3.{reach}
@@ -80,8 +80,8 @@ branched-keeps i g f a = (go (i .link) _, λ h. h)
 
 -- ---- steps
 
-first-keeps : (i : Instruction) (g : List ℕ) (f pc : ℕ) (mem : Memory) → Keeps g f mem (first i g f pc mem)
-unfolding first
+first-keeps : (i : Instruction) (g : List ℕ) (f pc : ℕ) (mem : Memory) → Keeps g f mem (firstStep i g f pc mem)
+unfolding firstStep
 first-keeps (Instruction.Processing i) g f pc mem = go (byRegister? (i .operand)) (processed-keeps i g f pc)
   where
     go : (b : Bool) → KeepsOut g f (processed i g f pc) → Keeps g f mem (pick b (own g (still f (More (Later 0))) mem) (last (processed i g f pc) mem))
@@ -121,8 +121,8 @@ block-keeps i zero g f pc l mem false =
 block-keeps i (suc k) g f pc l mem true = load-step-keeps k (drop k (block.named (i .list))) g f l mem
 block-keeps i (suc k) g f pc l mem false = store-step-keeps (suc k) (drop (suc k) (block.named (i .list))) g f pc l mem
 
-later-keeps : (i : Instruction) (k : ℕ) (g : List ℕ) (f pc : ℕ) (l : Latches) (mem : Memory) → Keeps g f mem (later i k g f pc l mem)
-unfolding later
+later-keeps : (i : Instruction) (k : ℕ) (g : List ℕ) (f pc : ℕ) (l : Latches) (mem : Memory) → Keeps g f mem (laterStep i k g f pc l mem)
+unfolding laterStep
 later-keeps (Instruction.Processing i) k g f pc l mem = let p = processed-keeps i g f pc in (p .0, refl, p .1)
 later-keeps (Instruction.Single i) k g f pc l mem = single-keeps i k g f l mem (i .l)
 later-keeps (Instruction.Block i) k g f pc l mem = block-keeps i k g f pc l mem (i .l)

@@ -46,7 +46,7 @@ use Rattle.cycle.specs.declared.Pipe.{Pipe}
 use Rattle.cycle.specs.declared.Counts.{Counts}
 use Rattle.plain.specs.Numbers.{mostBytes}
 use Rattle.cycle.specs.Machine.{Machine, machine, lent, stateOf, pipe}
-use Rattle.steps.specs.Steps.{Own, ends, nextToMove, first, later, loadLater, storeLater, loadStep, blockLoadLater, storeStep, blockStoreLater}
+use Rattle.steps.specs.Steps.{Own, ends, nextToMove, firstStep, laterStep, loadLater, storeLater, loadStep, blockLoadLater, storeStep, blockStoreLater}
 use Rattle.cycle.specs.Cycle.{cycle, firstDue, ownOf, fetches, pipeAfter, phaseAfter, retiredBy}
 use Rattle.cycle.specs.StopFound.{isStep1, stopFound}
 use Rattle.refusals.specs.Numbers.{leftToMove, stateLater, badWithin, badStep, badPhase}
@@ -138,11 +138,11 @@ module _ (n : Board) (short : n .size ≤ mostBytes) where
       go false = omega arith
 
   first-ok : (i : Instruction) (s : State) (pc : ℕ) → s .memory .board ≡ n → Quiet i s → ahead (s .a) 8 ≡ pc
-      → OkOwn i (s .status) n (first i (s .registers) (s .status) pc (s .memory))
-  unfolding first movesOf
+      → OkOwn i (s .status) n (firstStep i (s .registers) (s .status) pc (s .memory))
+  unfolding firstStep movesOf
   first-ok (Instruction.Processing i) s pc b q e = go (byRegister? (i .operand)) refl
     where
-      go : (t : Bool) → byRegister? (i .operand) ≡ t → OkOwn (Instruction.Processing i) (s .status) n (first (Instruction.Processing i) (s .registers) (s .status) pc (s .memory))
+      go : (t : Bool) → byRegister? (i .operand) ≡ t → OkOwn (Instruction.Processing i) (s .status) n (firstStep (Instruction.Processing i) (s .registers) (s .status) pc (s .memory))
       go true t = rw t (record { known = refl; allowed = in-every _ s (q .allowed); has = rw t (omega arith); inside = refl }, refl)
       go false t = rw t (ends-ok (Instruction.Processing i) (s .status) n _ (processed i (s .registers) (s .status) pc .goes))
   first-ok (Instruction.Single i) s pc b q e =
@@ -227,8 +227,8 @@ module _ (n : Board) (short : n .size ≤ mostBytes) where
       (record { known = refl; allowed = m .allowed; has = omega arith; inside = refl }, refl)
   single-load-ok i e (suc k) g f l mem m = ends-ok (Instruction.Single i) f n _ (arrives g f (i .rd) (l .datum) .goes)
 
-  later-ok : (i : Instruction) (k : ℕ) (g : List ℕ) (f pc : ℕ) (l : Latches) (mem : Memory) → Mid i k (l .address) n → OkOwn i f n (later i k g f pc l mem)
-  unfolding later
+  later-ok : (i : Instruction) (k : ℕ) (g : List ℕ) (f pc : ℕ) (l : Latches) (mem : Memory) → Mid i k (l .address) n → OkOwn i f n (laterStep i k g f pc l mem)
+  unfolding laterStep
   later-ok (Instruction.Processing i) k g f pc l mem m = ends-ok (Instruction.Processing i) f n _ (processed i g f pc .goes)
   later-ok (Instruction.Single i) k g f pc l mem m = go (i .l) refl
     where

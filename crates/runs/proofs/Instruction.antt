@@ -43,7 +43,7 @@ use Rattle.steps.specs.declared.Phase.the-variants.{Step1, Later}
 use Rattle.steps.specs.declared.Latches.{Latches}
 use Rattle.plain.specs.Numbers.{mostBytes}
 use Rattle.cycle.specs.Machine.{Machine, pipe, counts}
-use Rattle.steps.specs.Steps.{latches, own, on, idle, first, later, loadLater, storeLater, loadStep, blockLoadLater, storeStep, blockStoreLater, nextToMove}
+use Rattle.steps.specs.Steps.{latches, own, on, idle, firstStep, laterStep, loadLater, storeLater, loadStep, blockLoadLater, storeStep, blockStoreLater, nextToMove}
 use Rattle.cycle.specs.Cycle.{cycle, ownOf}
 use Rattle.runs.specs.Boundary.{boundary, lead}
 use Rattle.steps.proofs.Both.{or-false}
@@ -129,22 +129,22 @@ block-base i g b = go (i .w)
 
 module _ (i : Single) (g : List ℕ) (f : ℕ) where
   load-first : (pc : ℕ) (mem : Memory) → i .l ≡ true
-      → first (Instruction.Single i) g f pc mem ≡ own g (on f (latches (single.addressOf i g f pc) 0 (pick (single.writesBase i) (single.changedBase i g f pc) 0)) 0) mem
-  unfolding first
+      → firstStep (Instruction.Single i) g f pc mem ≡ own g (on f (latches (single.addressOf i g f pc) 0 (pick (single.writesBase i) (single.changedBase i g f pc) 0)) 0) mem
+  unfolding firstStep
   load-first pc mem l = rw l
 
   store-first : (pc : ℕ) (mem : Memory) → i .l ≡ false
-      → first (Instruction.Single i) g f pc mem
+      → firstStep (Instruction.Single i) g f pc mem
       ≡ own g (on f (latches (single.addressOf i g f pc) (single.storedValue g (i .rd) f (ahead pc 4)) (pick (single.writesBase i) (single.changedBase i g f pc) 0)) 0) mem
-  unfolding first
+  unfolding firstStep
   store-first pc mem l = rw l
 
-  load-later : (k pc : ℕ) (ls : Latches) (mem : Memory) → i .l ≡ true → later (Instruction.Single i) k g f pc ls mem ≡ loadLater i k g f ls mem
-  unfolding later
+  load-later : (k pc : ℕ) (ls : Latches) (mem : Memory) → i .l ≡ true → laterStep (Instruction.Single i) k g f pc ls mem ≡ loadLater i k g f ls mem
+  unfolding laterStep
   load-later k pc ls mem l = ap (λ b. pick b (loadLater i k g f ls mem) (storeLater i g f ls mem)) l
 
-  store-later : (k pc : ℕ) (ls : Latches) (mem : Memory) → i .l ≡ false → later (Instruction.Single i) k g f pc ls mem ≡ storeLater i g f ls mem
-  unfolding later
+  store-later : (k pc : ℕ) (ls : Latches) (mem : Memory) → i .l ≡ false → laterStep (Instruction.Single i) k g f pc ls mem ≡ storeLater i g f ls mem
+  unfolding laterStep
   store-later k pc ls mem l = ap (λ b. pick b (loadLater i k g f ls mem) (storeLater i g f ls mem)) l
 
 module _ (i : Single) (s : State) where
@@ -158,22 +158,22 @@ module _ (i : Single) (s : State) where
 
 module _ (i : Block) (g : List ℕ) (f : ℕ) where
   block-load-first : (pc : ℕ) (mem : Memory) → i .l ≡ true
-      → first (Instruction.Block i) g f pc mem ≡ own g (on f (latches (block.lowestAddress i g) 0 (pick (i .w) (block.changedBase i g) 0)) 0) mem
-  unfolding first
+      → firstStep (Instruction.Block i) g f pc mem ≡ own g (on f (latches (block.lowestAddress i g) 0 (pick (i .w) (block.changedBase i g) 0)) 0) mem
+  unfolding firstStep
   block-load-first pc mem l = rw l
 
   block-store-first : (pc : ℕ) (mem : Memory) → i .l ≡ false
-      → first (Instruction.Block i) g f pc mem
+      → firstStep (Instruction.Block i) g f pc mem
       ≡ own g (on f (latches (block.lowestAddress i g) (single.storedValue g (getD (block.named (i .list)) 0 16) f (ahead pc 4)) (pick (i .w) (block.changedBase i g) 0)) 0) mem
-  unfolding first
+  unfolding firstStep
   block-store-first pc mem l = rw l
 
-  block-load-later : (k pc : ℕ) (ls : Latches) (mem : Memory) → i .l ≡ true → later (Instruction.Block i) k g f pc ls mem ≡ blockLoadLater i k g f ls mem
-  unfolding later
+  block-load-later : (k pc : ℕ) (ls : Latches) (mem : Memory) → i .l ≡ true → laterStep (Instruction.Block i) k g f pc ls mem ≡ blockLoadLater i k g f ls mem
+  unfolding laterStep
   block-load-later k pc ls mem l = ap (λ b. pick b (blockLoadLater i k g f ls mem) (blockStoreLater i k g f pc ls mem)) l
 
-  block-store-later : (k pc : ℕ) (ls : Latches) (mem : Memory) → i .l ≡ false → later (Instruction.Block i) k g f pc ls mem ≡ blockStoreLater i k g f pc ls mem
-  unfolding later
+  block-store-later : (k pc : ℕ) (ls : Latches) (mem : Memory) → i .l ≡ false → laterStep (Instruction.Block i) k g f pc ls mem ≡ blockStoreLater i k g f pc ls mem
+  unfolding laterStep
   block-store-later k pc ls mem l = ap (λ b. pick b (blockLoadLater i k g f ls mem) (blockStoreLater i k g f pc ls mem)) l
 
 module _ (i : Block) (s : State) where
@@ -207,14 +207,14 @@ module _ (w : ℕ) (s : State) (k t : ℕ) (ps : passes (field w 28 4) (s .statu
   steps {i} h e = rw e (omega (arith, own-steps i h))
 
   simple : (i : Processing) → readOf w ≡ Instruction.Processing i → byRegister? (i .operand) ≡ false → Flies (Instruction.Processing i)
-  unfolding cycle ownOf due first effectOf
+  unfolding cycle ownOf due firstStep effectOf
   simple i e b =
       let o = processed i g f (ahead a 8) in
       let n = rw b at (steps (o .registers) e) in
       rw (ps, e, b, turn12 a) (land (o .registers) (o .flags) (o .goes) w a k t 3 mem n)
 
   shifted : (i : Processing) → readOf w ≡ Instruction.Processing i → byRegister? (i .operand) ≡ true → Flies (Instruction.Processing i)
-  unfolding cycle ownOf due first later effectOf lead
+  unfolding cycle ownOf due firstStep laterStep effectOf lead
   shifted i e b =
       let o = processed i g f (ahead a 12) in
       let n = rw b at (steps (o .registers) e) in
@@ -224,7 +224,7 @@ module _ (w : ℕ) (s : State) (k t : ℕ) (ps : passes (field w 28 4) (s .statu
       )
 
   branch : (i : Branch) → readOf w ≡ Instruction.Branch i → a < counters → Flies (Instruction.Branch i)
-  unfolding cycle ownOf due first effectOf
+  unfolding cycle ownOf due firstStep effectOf
   branch i e r =
       let o = branched i g f a in
       rw (ps, e, behind-ahead a r, turn12 a) (land (o .registers) (o .flags) (o .goes) w a k t 3 mem (steps (o .registers) e))

@@ -28,12 +28,15 @@ singleSteps i = pick (i .l) 3 2
 abbrev pub blockSteps : Block → ℕ
 blockSteps i = pick (i .l) (block.count i + 2) (block.count i + 1)
 
+abbrev pub branchSteps : ℕ
+branchSteps = 1
+
 -- own steps, in a state's registers
 unfoldable pub ownSteps : Instruction → List ℕ → ℕ
 ownSteps (Instruction.Processing i) g = processingSteps i
 ownSteps (Instruction.Single i) g = singleSteps i
 ownSteps (Instruction.Block i) g = blockSteps i
-ownSteps (Instruction.Branch i) g = 1
+ownSteps (Instruction.Branch i) g = branchSteps
 ownSteps (Instruction.Other word) g = 1
 
 -- the steps of a failed condition

@@ -28,6 +28,14 @@ pub fn block_steps(i: Block) -> u32
     if i.l { n + 2 } else { n + 1 }
 }
 
+pub const BRANCH_STEPS: u32 = 1;
+
+// Of a failed condition, whatever the class.
+pub const SKIPPED_STEPS: u32 = 1;
+
+// Of a stored counter, after the own steps.
+pub const REFILLS: u32 = 2;
+
 // In the registers as they stand.
 pub fn own_steps(i: Instruction, registers: &[u32; 15]) -> u32
     ensures { λ r. ⌜ r ≡ ownSteps i (now (registers .entry)) ⌝ }
@@ -36,7 +44,7 @@ pub fn own_steps(i: Instruction, registers: &[u32; 15]) -> u32
         Instruction::Processing(p) => processing_steps(p),
         Instruction::Single(s) => single_steps(s),
         Instruction::Block(b) => block_steps(b),
-        Instruction::Branch(_) => 1,
+        Instruction::Branch(_) => BRANCH_STEPS,
         Instruction::Other(_) => 1,
     }
 }

@@ -14,6 +14,9 @@ ghost use Rattle.semantics.specs.Duration.{singleSteps, blockSteps, refi
 ghost use Rattle.semantics.specs.Perform.{resultOf, performed, stoppedAt, done, executed, performs};
 use crate::Performed;
 use crate::branch::branch;
+use crate::own_steps::BRANCH_STEPS;
+use crate::own_steps::REFILLS;
+use crate::own_steps::SKIPPED_STEPS;
 use crate::own_steps::block_steps;
 use crate::own_steps::processing_steps;
 use crate::own_steps::single_steps;
@@ -39,6 +42,7 @@ use transfer::block;
 use transfer::single;
 use word::Block;
 use word::Branch;
+use word::Instruction;
 use word::Processing;
 use word::Single;
 use word::reader;
@@ -67,7 +71,7 @@ fn done(a: u32, steps: u32, t: Outcome) -> Performed
             stop: 0,
             flags: t.flags,
             next: counter(word),
-            cycles: steps + 2,
+            cycles: steps + REFILLS,
         },
     }
 }
@@ -270,10 +274,30 @@ fn perform_block(
 fn perform_branch(i: Branch, registers: &mut [u32; 15], flags: u32, a: u32) -> Performed
     ensures { λ r. ⌜ ((mem : Memory) → resultOf r (now (registers .exit)) mem ≡ executed (Instruction.Branch i) (state (now (registers .entry)) flags a mem)) ⌝ }
 {
-    done(a, 1, branch(i, registers, flags, a))
+    done(a, BRANCH_STEPS, branch(i, registers, flags, a))
 }
 
-// The reader of the class alone, so that it dissolves here.
+// An instruction whose condition passes.
+fn perform_instruction(
+    i: Instruction,
+    registers: &mut [u32; 15],
+    memory: &mut [u8],
+    flags: u32,
+    a: u32,
+    board: Board,
+) -> Performed
+    ensures { λ r. ⌜ resultOf r (now (registers .exit)) (memoryOf board (now (memory .exit))) ≡ executed i (state (now (registers .entry)) flags a (memoryOf board (now (memory .entry)))) ⌝ }
+{
+    match i {
+        Instruction::Processing(p) => perform_processing(p, registers, flags, a),
+        Instruction::Single(s) => perform_single(s, registers, memory, flags, a, board),
+        Instruction::Block(b) => perform_block(b, registers, memory, flags, a, board),
+        Instruction::Branch(b) => perform_branch(b, registers, flags, a),
+        Instruction::Other(_) => stopped(OTHER_WORD, flags, a),
+    }
+}
+
+// The reader of the class alone, so that it dissolves here; what a word of the extension space is, `extended` says.
 fn execute(
     word: u32,
     registers: &mut [u32; 15],
@@ -288,7 +312,7 @@ fn execute(
         0 => {
             if bit(word, 4) {
                 if bit(word, 7) {
-                    stopped(OTHER_WORD, flags, a)
+                    perform_instruction(reader::extended(word), registers, memory, flags, a, board)
                 } else {
                     perform_processing(
                         reader::processing(word, reader::by_register(word)),
@@ -353,7 +377,7 @@ pub fn perform(
     if passes(field(word, 28, 4), flags) {
         execute(word, registers, memory, flags, a, board)
     } else {
-        went_on(a, 1, flags)
+        went_on(a, SKIPPED_STEPS, flags)
     }
 }
 

@@ -14,11 +14,11 @@ use Rattle.transfer.specs.Single as single
 use Rattle.transfer.specs.Single.{offsetOf, addressOf, loadedValue, storedValue, storedTo}
 use Rattle.transfer.specs.Block.{namedFrom, named, changedBase, lowestAddress, withBase}
 use Rattle.semantics.specs.Branch.{branched}
-use Rattle.steps.specs.Steps.{first, loadLater, storeLater, loadStep, blockLoadLater, storeStep, blockStoreLater, later}
+use Rattle.steps.specs.Steps.{firstStep, loadLater, storeLater, loadStep, blockLoadLater, storeStep, blockStoreLater, laterStep}
 use Rattle.steps.specs.LatchTable.{LatchTable}
 
 pub latch-table : LatchTable
-unfolding field bit readOf rotated lsl shift byRegister byAmount operate ahead r15Word holdsWord wordIn withWord place register put arrives operandOf computedOf flagsAfter stored processed offsetOf addressOf loadedValue storedValue storedTo single.changedBase single.withBase namedFrom named changedBase lowestAddress withBase branched behind first loadLater storeLater loadStep blockLoadLater storeStep blockStoreLater later
+unfolding field bit readOf rotated lsl shift byRegister byAmount operate ahead r15Word holdsWord wordIn withWord place register put arrives operandOf computedOf flagsAfter stored processed offsetOf addressOf loadedValue storedValue storedTo single.changedBase single.withBase namedFrom named changedBase lowestAddress withBase branched behind firstStep loadLater storeLater loadStep blockLoadLater storeStep blockStoreLater laterStep
 latch-table = record {
   moved = refl;
   branched = refl;

@@ -23,7 +23,7 @@ use Rattle.steps.specs.declared.Phase.the-variants.{Later}
 use Rattle.steps.specs.declared.After.the-variants.{More}
 use Rattle.steps.specs.declared.Latches.{Latches}
 use Rattle.steps.specs.declared.Step.{Step}
-use Rattle.steps.specs.Steps.{latches, Own, own, ends, still, last, done, on, first, loadLater, storeLater, nextToMove, loadStep, blockLoadLater, storeStep, blockStoreLater, later}
+use Rattle.steps.specs.Steps.{latches, Own, own, ends, still, last, done, on, firstStep, loadLater, storeLater, nextToMove, loadStep, blockLoadLater, storeStep, blockStoreLater, laterStep}
 
 -- a step that a call left, with the registers and the memory
 pub with-step : (g : List ℕ) (mem : Memory) {r s : Step} → r ≡ s → own g r mem ≡ own g s mem
@@ -36,22 +36,22 @@ last-as mem {g} e q = with-step g mem e ∙ ap (λ (x : Out). last x mem) q
 -- ---- step 1
 
 module _ (i : Processing) (g : List ℕ) (f pc : ℕ) (mem : Memory) where
-  pub processing-waits : byRegister? (i .operand) ≡ true → own g (still f (More (Later 0))) mem ≡ first (Instruction.Processing i) g f pc mem
-  unfolding first
+  pub processing-waits : byRegister? (i .operand) ≡ true → own g (still f (More (Later 0))) mem ≡ firstStep (Instruction.Processing i) g f pc mem
+  unfolding firstStep
   processing-waits e = rw e
 
-  pub processing-first : byRegister? (i .operand) ≡ false → last (processed i g f pc) mem ≡ first (Instruction.Processing i) g f pc mem
-  unfolding first
+  pub processing-first : byRegister? (i .operand) ≡ false → last (processed i g f pc) mem ≡ firstStep (Instruction.Processing i) g f pc mem
+  unfolding firstStep
   processing-first e = rw e
 
-pub single-first : (i : Single) (g : List ℕ) (f pc : ℕ) (mem : Memory) {l : Latches} → l ≡ first (Instruction.Single i) g f pc mem .step .latches
-    → own g (on f l 0) mem ≡ first (Instruction.Single i) g f pc mem
-unfolding first
+pub single-first : (i : Single) (g : List ℕ) (f pc : ℕ) (mem : Memory) {l : Latches} → l ≡ firstStep (Instruction.Single i) g f pc mem .step .latches
+    → own g (on f l 0) mem ≡ firstStep (Instruction.Single i) g f pc mem
+unfolding firstStep
 single-first i g f pc mem e = rw e
 
-pub block-first : (i : Block) (g : List ℕ) (f pc : ℕ) (mem : Memory) {l : Latches} → l ≡ first (Instruction.Block i) g f pc mem .step .latches
-    → own g (on f l 0) mem ≡ first (Instruction.Block i) g f pc mem
-unfolding first
+pub block-first : (i : Block) (g : List ℕ) (f pc : ℕ) (mem : Memory) {l : Latches} → l ≡ firstStep (Instruction.Block i) g f pc mem .step .latches
+    → own g (on f l 0) mem ≡ firstStep (Instruction.Block i) g f pc mem
+unfolding firstStep
 block-first i g f pc mem e = rw e
 
 -- ---- later steps of a single transfer
@@ -76,12 +76,12 @@ module _ (i : Single) (k : ℕ) (g : List ℕ) (f : ℕ) (mem : Memory) (a d b :
   store-writes w n = rw (w, n)
 
 module _ (i : Single) (k : ℕ) (g : List ℕ) (f pc : ℕ) (l : Latches) (mem : Memory) {r : Own} where
-  pub single-loads : i .l ≡ true → r ≡ loadLater i k g f l mem → r ≡ later (Instruction.Single i) k g f pc l mem
-  unfolding later
+  pub single-loads : i .l ≡ true → r ≡ loadLater i k g f l mem → r ≡ laterStep (Instruction.Single i) k g f pc l mem
+  unfolding laterStep
   single-loads e q = q ∙ rw e
 
-  pub single-stores : i .l ≡ false → r ≡ storeLater i g f l mem → r ≡ later (Instruction.Single i) k g f pc l mem
-  unfolding later
+  pub single-stores : i .l ≡ false → r ≡ storeLater i g f l mem → r ≡ laterStep (Instruction.Single i) k g f pc l mem
+  unfolding laterStep
   single-stores e q = q ∙ rw e
 
 -- ---- later steps of a block transfer
@@ -169,18 +169,18 @@ block-store-step i zero g f pc l mem w q = q ∙ rw w
 block-store-step i (suc k) g f pc l mem w q = q ∙ rw (w, ne-eqb (suc k) 0 (λ z. omega arith))
 
 module _ (i : Block) (k : ℕ) (g : List ℕ) (f pc : ℕ) (l : Latches) (mem : Memory) {r : Own} where
-  pub block-loads : i .l ≡ true → r ≡ blockLoadLater i k g f l mem → r ≡ later (Instruction.Block i) k g f pc l mem
-  unfolding later
+  pub block-loads : i .l ≡ true → r ≡ blockLoadLater i k g f l mem → r ≡ laterStep (Instruction.Block i) k g f pc l mem
+  unfolding laterStep
   block-loads e q = q ∙ rw e
 
-  pub block-stores : i .l ≡ false → r ≡ blockStoreLater i k g f pc l mem → r ≡ later (Instruction.Block i) k g f pc l mem
-  unfolding later
+  pub block-stores : i .l ≡ false → r ≡ blockStoreLater i k g f pc l mem → r ≡ laterStep (Instruction.Block i) k g f pc l mem
+  unfolding laterStep
   block-stores e q = q ∙ rw e
 
 -- an instruction that is read from a word
-pub first-read : {i j : Instruction} (g : List ℕ) (f pc : ℕ) (mem : Memory) {r : Own} → i ≡ j → r ≡ first i g f pc mem → r ≡ first j g f pc mem
-first-read g f pc mem e q = q ∙ ap (λ i. first i g f pc mem) e
+pub first-read : {i j : Instruction} (g : List ℕ) (f pc : ℕ) (mem : Memory) {r : Own} → i ≡ j → r ≡ firstStep i g f pc mem → r ≡ firstStep j g f pc mem
+first-read g f pc mem e q = q ∙ ap (λ i. firstStep i g f pc mem) e
 
 pub later-read : {i j : Instruction} (k : ℕ) (g : List ℕ) (f pc : ℕ) (l : Latches) (mem : Memory) {r : Own}
-    → i ≡ j → r ≡ later i k g f pc l mem → r ≡ later j k g f pc l mem
-later-read k g f pc l mem e q = q ∙ ap (λ i. later i k g f pc l mem) e
+    → i ≡ j → r ≡ laterStep i k g f pc l mem → r ≡ laterStep j k g f pc l mem
+later-read k g f pc l mem e q = q ∙ ap (λ i. laterStep i k g f pc l mem) e

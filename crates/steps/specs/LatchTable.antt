@@ -10,7 +10,7 @@ use Rattle.steps.specs.declared.After.the-variants.{More, Done, Jump}
 use Rattle.steps.specs.declared.After.{After}
 use Rattle.steps.specs.declared.Ended.the-variants.{Executed}
 use Rattle.steps.specs.declared.Latches.{Latches}
-use Rattle.steps.specs.Steps.{latches, idle, step, Own, own, first, later}
+use Rattle.steps.specs.Steps.{latches, idle, step, Own, own, firstStep, laterStep}
 
 -- values in R0 to R3, and 0 in the others
 abbrev pub holding : ℕ → ℕ → ℕ → ℕ → List ℕ
@@ -34,10 +34,10 @@ memory = words 0xA1 0xA2 0xA3
 
 -- after step k + 1 of a word at 20: the counter is A+8 in step 1 and A+12 later
 abbrev pub after : ℕ → ℕ → Own
-after word zero = first (readOf word) registers 6 0x28 memory
+after word zero = firstStep (readOf word) registers 6 0x28 memory
 after word (suc k) =
     let o = after word k in
-    later (readOf word) k (o .registers) (o .step .flags) 0x2C (o .step .latches) (o .memory)
+    laterStep (readOf word) k (o .registers) (o .step .flags) 0x2C (o .step .latches) (o .memory)
 
 -- what a step leaves; no word of the table changes the flags
 abbrev pub left : List ℕ → Latches → Memory → After → Own

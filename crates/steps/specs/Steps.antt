@@ -83,13 +83,13 @@ blockFirst i g f pc mem =
     0)
     mem
 
-unfoldable pub first : Instruction → List ℕ → ℕ → ℕ → Memory → Own
-first (Instruction.Processing i) g f pc mem =
+unfoldable pub firstStep : Instruction → List ℕ → ℕ → ℕ → Memory → Own
+firstStep (Instruction.Processing i) g f pc mem =
     pick (byRegister? (i .operand)) (own g (still f (More (Later 0))) mem) (last (processed i g f pc) mem)
-first (Instruction.Single i) g f pc mem = singleFirst i g f pc mem
-first (Instruction.Block i) g f pc mem = blockFirst i g f pc mem
-first (Instruction.Branch i) g f pc mem = last (branched i g f (behind pc 8)) mem
-first (Instruction.Other word) g f pc mem = done g f mem
+firstStep (Instruction.Single i) g f pc mem = singleFirst i g f pc mem
+firstStep (Instruction.Block i) g f pc mem = blockFirst i g f pc mem
+firstStep (Instruction.Branch i) g f pc mem = last (branched i g f (behind pc 8)) mem
+firstStep (Instruction.Other word) g f pc mem = done g f mem
 
 -- ---- step k + 2; pc is A+12
 
@@ -135,9 +135,9 @@ unfoldable pub blockStoreLater : Block → ℕ → List ℕ → ℕ → ℕ → 
 blockStoreLater i zero g f pc l mem = storeStep 0 (block.named (i .list)) (block.withBase i g (l .base)) f pc l mem
 blockStoreLater i (suc k) g f pc l mem = storeStep (suc k) (drop (suc k) (block.named (i .list))) g f pc l mem
 
-unfoldable pub later : Instruction → ℕ → List ℕ → ℕ → ℕ → Latches → Memory → Own
-later (Instruction.Processing i) k g f pc l mem = last (processed i g f pc) mem
-later (Instruction.Single i) k g f pc l mem = pick (i .l) (loadLater i k g f l mem) (storeLater i g f l mem)
-later (Instruction.Block i) k g f pc l mem = pick (i .l) (blockLoadLater i k g f l mem) (blockStoreLater i k g f pc l mem)
-later (Instruction.Branch i) k g f pc l mem = done g f mem
-later (Instruction.Other word) k g f pc l mem = done g f mem
+unfoldable pub laterStep : Instruction → ℕ → List ℕ → ℕ → ℕ → Latches → Memory → Own
+laterStep (Instruction.Processing i) k g f pc l mem = last (processed i g f pc) mem
+laterStep (Instruction.Single i) k g f pc l mem = pick (i .l) (loadLater i k g f l mem) (storeLater i g f l mem)
+laterStep (Instruction.Block i) k g f pc l mem = pick (i .l) (blockLoadLater i k g f l mem) (blockStoreLater i k g f pc l mem)
+laterStep (Instruction.Branch i) k g f pc l mem = done g f mem
+laterStep (Instruction.Other word) k g f pc l mem = done g f mem

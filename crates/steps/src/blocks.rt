@@ -8,7 +8,7 @@ ghost use Rattle.bits.specs.Choice.{pick};
 ghost use Rattle.word.specs.declared.Instruction.{Instruction};
 ghost use Rattle.transfer.specs.Block as block;
 ghost use Rattle.memory.specs.Memory.{memoryOf, writeWord};
-ghost use Rattle.steps.specs.Steps.{own, done, nextToMove, loadStep, blockLoadLater, storeStep, blockStoreLater, later};
+ghost use Rattle.steps.specs.Steps.{own, done, nextToMove, loadStep, blockLoadLater, storeStep, blockStoreLater, laterStep};
 use crate::After;
 use crate::Ended;
 use crate::Latches;
@@ -197,7 +197,7 @@ pub fn later_block(
     l: Latches,
     board: Board,
 ) -> Step
-    ensures { λ r. ⌜ own (now (registers .exit)) r (memoryOf board (now (memory .exit))) ≡ later (Instruction.Block i) k (now (registers .entry)) flags pc l (memoryOf board (now (memory .entry))) ⌝ }
+    ensures { λ r. ⌜ own (now (registers .exit)) r (memoryOf board (now (memory .exit))) ≡ laterStep (Instruction.Block i) k (now (registers .entry)) flags pc l (memoryOf board (now (memory .entry))) ⌝ }
 {
     if i.l {
         block_load_later(i, k, registers, memory, flags, l, board)

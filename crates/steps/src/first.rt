@@ -7,7 +7,7 @@ ghost use Rattle.word.specs.Reader.{readOf};
 ghost use Rattle.datapath.specs.Counter.{ahead};
 ghost use Rattle.transfer.specs.Single as single;
 ghost use Rattle.transfer.specs.Block as block;
-ghost use Rattle.steps.specs.Steps.{own, first};
+ghost use Rattle.steps.specs.Steps.{own, firstStep};
 use crate::After;
 use crate::Ended;
 use crate::Phase;
@@ -32,7 +32,7 @@ use word::reader;
 
 // With shift by register all is done in the second step.
 fn first_processing(i: Processing, registers: &mut [u32; 15], flags: u32, pc: u32) -> Step
-    ensures { λ r. ⌜ ((mem : Memory) → own (now (registers .exit)) r mem ≡ first (Instruction.Processing i) (now (registers .entry)) flags pc mem) ⌝ }
+    ensures { λ r. ⌜ ((mem : Memory) → own (now (registers .exit)) r mem ≡ firstStep (Instruction.Processing i) (now (registers .entry)) flags pc mem) ⌝ }
 {
     let o = i.operand;
     if shifts_by_register(o) {
@@ -64,7 +64,7 @@ fn single_base(i: Single, registers: &[u32; 15], flags: u32, pc: u32) -> u32
 }
 
 fn first_single(i: Single, registers: &[u32; 15], flags: u32, pc: u32) -> Step
-    ensures { λ r. ⌜ ((mem : Memory) → own (now (registers .entry)) r mem ≡ first (Instruction.Single i) (now (registers .entry)) flags pc mem) ⌝ }
+    ensures { λ r. ⌜ ((mem : Memory) → own (now (registers .entry)) r mem ≡ firstStep (Instruction.Single i) (now (registers .entry)) flags pc mem) ⌝ }
 {
     let address = single::address(i, registers, flags, pc);
     let datum = first_datum(i.l, registers, i.rd, flags, pc);
@@ -88,7 +88,7 @@ fn block_base(i: Block, registers: &[u32; 15]) -> u32
 }
 
 fn first_block(i: Block, registers: &[u32; 15], flags: u32, pc: u32) -> Step
-    ensures { λ r. ⌜ ((mem : Memory) → own (now (registers .entry)) r mem ≡ first (Instruction.Block i) (now (registers .entry)) flags pc mem) ⌝ }
+    ensures { λ r. ⌜ ((mem : Memory) → own (now (registers .entry)) r mem ≡ firstStep (Instruction.Block i) (now (registers .entry)) flags pc mem) ⌝ }
 {
     let address = block::lowest_address(i, registers);
     let datum = first_datum(i.l, registers, lowest(i.list), flags, pc);
@@ -96,14 +96,14 @@ fn first_block(i: Block, registers: &[u32; 15], flags: u32, pc: u32) -> Step
 }
 
 fn first_branch(i: Branch, registers: &mut [u32; 15], flags: u32, pc: u32) -> Step
-    ensures { λ r. ⌜ ((mem : Memory) → own (now (registers .exit)) r mem ≡ first (Instruction.Branch i) (now (registers .entry)) flags pc mem) ⌝ }
+    ensures { λ r. ⌜ ((mem : Memory) → own (now (registers .exit)) r mem ≡ firstStep (Instruction.Branch i) (now (registers .entry)) flags pc mem) ⌝ }
 {
     last(branch(i, registers, flags, behind(pc)))
 }
 
 // Step 1 of a word whose condition passes.
-pub fn first(word: u32, registers: &mut [u32; 15], flags: u32, pc: u32) -> Step
-    ensures { λ r. ⌜ ((mem : Memory) → own (now (registers .exit)) r mem ≡ first (readOf word) (now (registers .entry)) flags pc mem) ⌝ }
+pub fn first_step(word: u32, registers: &mut [u32; 15], flags: u32, pc: u32) -> Step
+    ensures { λ r. ⌜ ((mem : Memory) → own (now (registers .exit)) r mem ≡ firstStep (readOf word) (now (registers .entry)) flags pc mem) ⌝ }
 {
     match reader::read(word) {
         Instruction::Processing(i) => first_processing(i, registers, flags, pc),

@@ -5,7 +5,7 @@ ghost use Prim.Native.Nat.{ℕ};
 ghost use Rattle.word.specs.declared.Instruction.{Instruction};
 ghost use Rattle.word.specs.Reader.{readOf};
 ghost use Rattle.processing.specs.Processing.{processed};
-ghost use Rattle.steps.specs.Steps.{own, last, loadLater, storeLater, later};
+ghost use Rattle.steps.specs.Steps.{own, last, loadLater, storeLater, laterStep};
 use crate::After;
 use crate::Ended;
 use crate::Latches;
@@ -75,7 +75,7 @@ fn later_single(
     l: Latches,
     board: Board,
 ) -> Step
-    ensures { λ r. ⌜ ((pc : ℕ) → own (now (registers .exit)) r (memoryOf board (now (memory .exit))) ≡ later (Instruction.Single i) k (now (registers .entry)) flags pc l (memoryOf board (now (memory .entry)))) ⌝ }
+    ensures { λ r. ⌜ ((pc : ℕ) → own (now (registers .exit)) r (memoryOf board (now (memory .exit))) ≡ laterStep (Instruction.Single i) k (now (registers .entry)) flags pc l (memoryOf board (now (memory .entry)))) ⌝ }
 {
     if i.l {
         load_later(i, k, registers, memory, flags, l, board)
@@ -85,7 +85,7 @@ fn later_single(
 }
 
 // Step k + 2 of a word.
-pub fn later(
+pub fn later_step(
     word: u32,
     k: u32,
     registers: &mut [u32; 15],
@@ -95,7 +95,7 @@ pub fn later(
     l: Latches,
     board: Board,
 ) -> Step
-    ensures { λ r. ⌜ own (now (registers .exit)) r (memoryOf board (now (memory .exit))) ≡ later (readOf word) k (now (registers .entry)) flags pc l (memoryOf board (now (memory .entry))) ⌝ }
+    ensures { λ r. ⌜ own (now (registers .exit)) r (memoryOf board (now (memory .exit))) ≡ laterStep (readOf word) k (now (registers .entry)) flags pc l (memoryOf board (now (memory .entry))) ⌝ }
 {
     match reader::read(word) {
         Instruction::Processing(i) => later_processing(i, registers, flags, pc),

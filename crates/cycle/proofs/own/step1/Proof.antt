@@ -5,7 +5,7 @@ use Rattle.cycle.proofs.own.step1.Statement.{statement}
 use Rattle.cycle.proofs.own.step1.Tie as tie
 
 returns : tie.Need-returns
-returns c mem = passing _ (c .before .before .before .before .before .before .ix .given .1) (c .before .before .before .before .field .ensures) (c .before .before .before .passes .ensures) (c .before .before .if1 .taken) (c .first .ensures _)
+returns c mem = passing _ (c .before .before .before .before .before .before .ix .given .1) (c .before .before .before .before .field .ensures) (c .before .before .before .passes .ensures) (c .before .before .if1 .taken) (c .first-step .ensures _)
 
 returns-2 : tie.Need-returns-2
 returns-2 c mem = failing _ (c .before .before .before .before .before .before .ix .given .1) (c .before .before .before .before .field .ensures) (c .before .before .before .passes .ensures) (c .before .before .if1 .left) (c .before .skips .ensures) (with-step _ _ (c .still .ensures))

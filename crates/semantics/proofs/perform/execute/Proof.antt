@@ -10,8 +10,8 @@ use Rattle.semantics.proofs.perform.execute.Tie as tie
 returns : tie.Need-returns
 unfolding readOf
 returns c =
-    let e : Instruction.Other (c .before .before .before .before .before .before .before .before .args .word) ≡ readOf (c .before .before .before .before .before .before .before .before .args .word) = simp (sym (c .before .before .bit2 .ensures) ∙ c .before .if2 .taken, sym (c .before .before .before .before .bit .ensures) ∙ c .before .before .before .if1 .taken, sym (c .before .before .before .before .before .before .class .ensures) ∙ c .before .before .before .before .before .match .keys1) in
-    read-as _ e (other-stop _ _ (c .stopped .ensures))
+    let e : c .before .before .before .before .before .extended .result ≡ readOf (c .before .before .before .before .before .before .before .before .before .before .before .before .before .args .word) = simp (c .before .before .before .before .before .extended .ensures, sym (c .before .before .before .before .before .before .before .bit2 .ensures) ∙ c .before .before .before .before .before .before .if2 .taken, sym (c .before .before .before .before .before .before .before .before .before .bit .ensures) ∙ c .before .before .before .before .before .before .before .before .if1 .taken, sym (c .before .before .before .before .before .before .before .before .before .before .before .class .ensures) ∙ c .before .before .before .before .before .before .before .before .before .before .match .keys1) in
+    read-as _ e (c .before .before .perform-instruction .ensures)
 
 returns-2 : tie.Need-returns-2
 unfolding readOf
@@ -41,7 +41,7 @@ returns-6 : tie.Need-returns-6
 unfolding readOf
 returns-6 c =
     let e : Instruction.Other (c .before .before .before .before .before .before .args .word) ≡ readOf (c .before .before .before .before .before .before .args .word) = simp (sym (c .before .before .bit3 .ensures) ∙ c .before .if3 .taken, sym (c .before .before .before .before .class .ensures) ∙ c .before .before .before .match .keys4) in
-    read-as _ e (other-stop _ _ (c .stopped2 .ensures))
+    read-as _ e (other-stop _ _ (c .stopped .ensures))
 
 returns-7 : tie.Need-returns-7
 unfolding readOf
@@ -65,7 +65,7 @@ returns-10 : tie.Need-returns-10
 unfolding readOf
 returns-10 c =
     let e : Instruction.Other (c .before .before .before .before .args .word) ≡ readOf (c .before .before .before .before .args .word) = simp (ne-eqb _ _ (λ z. c .before .match .rest .1 (c .before .before .class .ensures ∙ z)), ne-eqb _ _ (λ z. c .before .match .rest .0 .1 (c .before .before .class .ensures ∙ z)), ne-eqb _ _ (λ z. c .before .match .rest .0 .0 .1 (c .before .before .class .ensures ∙ z)), ne-eqb _ _ (λ z. c .before .match .rest .0 .0 .0 .1 (c .before .before .class .ensures ∙ z)), ne-eqb _ _ (λ z. c .before .match .rest .0 .0 .0 .0 .1 (c .before .before .class .ensures ∙ z)), ne-eqb _ _ (λ z. c .before .match .rest .0 .0 .0 .0 .0 .1 (c .before .before .class .ensures ∙ z))) in
-    read-as _ e (other-stop _ _ (c .stopped3 .ensures))
+    read-as _ e (other-stop _ _ (c .stopped2 .ensures))
 
 pub execute-spec : {M : Type 1} → statement M
-execute-spec = tie.close (tie.spec (λ c κs. search needs) (λ c κs. search needs) (λ c κs. search needs) (λ c κs. search needs) (λ c κs. search needs) (λ c κs. search needs) (λ c κs. search needs) (λ c κs. search needs) (λ c κs. search needs) (λ c κs. search needs) (λ c κs. search needs) (λ c κs. search needs) (λ c κs. search needs) (λ c κs. search needs) (λ c κs. search needs) (λ c κs. search needs) (λ c κs. search needs) (λ c κs. search needs) (λ c κs. search needs) (λ c κs. search needs) (λ c κs. search needs) (λ c κs. search needs) (λ c κs. search needs) (λ c κs. search needs) (λ c κs. search needs) (λ c κs. search needs) returns returns-2 returns-3 returns-4 (λ c. search needs) returns-5 returns-6 (λ c. search needs) returns-7 (λ c. search needs) returns-8 returns-9 returns-10)
+execute-spec = tie.close (tie.spec (λ c κs. search needs) (λ c κs. search needs) (λ c κs. search needs) (λ c κs. search needs) (λ c κs. search needs) (λ c κs. search needs) (λ c κs. search needs) (λ c κs. search needs) (λ c κs. search needs) (λ c κs. search needs) (λ c κs. search needs) (λ c κs. search needs) (λ c κs. search needs) (λ c κs. search needs) (λ c κs. search needs) (λ c κs. search needs) (λ c κs. search needs) (λ c κs. search needs) (λ c κs. search needs) (λ c κs. search needs) (λ c κs. search needs) (λ c κs. search needs) (λ c κs. search needs) (λ c κs. search needs) (λ c κs. search needs) (λ c κs. search needs) (λ c κs. search needs) (λ c. search needs) returns returns-2 returns-3 returns-4 (λ c. search needs) returns-5 returns-6 (λ c. search needs) returns-7 (λ c. search needs) returns-8 returns-9 returns-10)
