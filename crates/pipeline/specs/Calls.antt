@@ -15,6 +15,7 @@ use Rattle.cycle.specs.Fresh.{freshControl}
 use Rattle.refusals.specs.Numbers.{refusal}
 use Rattle.runs.specs.Run.{runFrom}
 use Rattle.pipeline.specs.declared.Core.{Core}
+use Rattle.pipeline.specs.declared.CoreStarted.{CoreStarted}
 
 abbrev pub core : List ℕ → Control → Core
 core g c = record { registers = g; control = c }
@@ -32,12 +33,8 @@ zeroed =
       board = record { size = 0 };
     })
 
-pub record Begun : Type 0 where
-  pub answer : ℕ
-  pub core : Core
-
 -- start tests 1, 2, 4 and changes no memory
-unfoldable pub start : List ℕ → ℕ → ℕ → List ℕ → Begun
+unfoldable pub start : List ℕ → ℕ → ℕ → List ℕ → CoreStarted
 start g flags entry mem =
     let answer = startAnswer (length mem) entry flags in
     record { answer = answer; core = pick (eqb answer 0) (core g (freshControl flags entry (record { size = length mem }))) zeroed }

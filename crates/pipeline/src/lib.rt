@@ -46,7 +46,7 @@ fn zeroed() -> Core
 
 impl Core {
     pub fn start(registers: [u32; 15], flags: u32, entry: u32, memory: &[u8]) -> CoreStarted
-        ensures { λ r. ⌜ record { answer = r .answer; core = r .core } ≡ start registers flags entry (now (memory .entry)) ⌝ }
+        ensures { λ r. ⌜ r ≡ start registers flags entry (now (memory .entry)) ⌝ }
     {
         let answer = start_answer(memory.len(), entry, flags);
         if answer != 0 {

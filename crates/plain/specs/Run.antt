@@ -5,6 +5,7 @@ use lib.Dec.{eqb}
 use lib.ListN.{length, replicate}
 use Rattle.bits.specs.Choice.{pick}
 use Rattle.plain.specs.declared.Plain.{Plain}
+use Rattle.plain.specs.declared.PlainStarted.{PlainStarted}
 use Rattle.plain.specs.Machine.{Machine, machine, plain, step}
 use Rattle.plain.specs.Numbers.{startAnswer, refusal}
 use Rattle.plain.specs.Running.{Ran, Engine, runs, unless}
@@ -16,12 +17,7 @@ zeroed = plain (replicate 15 0) 0 0 0 (record { size = 0 })
 abbrev pub begun : List ℕ → ℕ → ℕ → List ℕ → Plain
 begun g flags entry mem = plain g entry flags 0 (record { size = length mem })
 
--- start: the number it answers, and the record
-pub record Begun : Type 0 where
-  pub answer : ℕ
-  pub plain : Plain
-
-unfoldable pub start : List ℕ → ℕ → ℕ → List ℕ → Begun
+unfoldable pub start : List ℕ → ℕ → ℕ → List ℕ → PlainStarted
 start g flags entry mem =
     let answer = startAnswer (length mem) entry flags in
     record { answer = answer; plain = pick (eqb answer 0) (begun g flags entry mem) zeroed }

@@ -57,7 +57,7 @@ fn zeroed() -> Plain
 impl Plain {
     // Changes no memory; a refused start hands back a zeroed record.
     pub fn start(registers: [u32; 15], flags: u32, entry: u32, memory: &[u8]) -> PlainStarted
-        ensures { λ r. ⌜ record { answer = r .answer; plain = r .plain } ≡ start registers flags entry (now (memory .entry)) ⌝ }
+        ensures { λ r. ⌜ r ≡ start registers flags entry (now (memory .entry)) ⌝ }
     {
         let answer = start_answer(memory.len(), entry, flags);
         if answer != 0 {

@@ -5,11 +5,12 @@ use Prim.Native.Nat.{ℕ}
 use borrow.Author.Tests.{eq-eqb, ne-eqb}
 use lib.ListN.{length}
 use Rattle.cycle.specs.Machine.{Machine, machine}
-use Rattle.pipeline.specs.Calls.{Begun, run}
+use Rattle.pipeline.specs.declared.CoreStarted.{CoreStarted}
+use Rattle.pipeline.specs.Calls.{run}
 use Rattle.plain.specs.Running.{Ran}
 use Rattle.report.specs.Report.{answerLine, coreLines, reportText, imageAfter, budget, begun, finished}
 
-module _ (image : List ℕ) (b : Begun) (is : b ≡ begun image) where
+module _ (image : List ℕ) (b : CoreStarted) (is : b ≡ begun image) where
   pub refused : (b .answer ≡ 0 → ⊥) → (reportText image ≡ answerLine (b .answer)) × (imageAfter image ≡ image)
   unfolding reportText imageAfter
   refused h = rw (← is, ne-eqb (b .answer) 0 h) (refl, refl)

@@ -8,7 +8,8 @@ use Rattle.bits.specs.Choice.{pick}
 use Rattle.text.specs.Text.{hexDigits, decimal}
 use Rattle.cycle.specs.declared.Control.{Control}
 use Rattle.cycle.specs.Machine.{Machine, machine}
-use Rattle.pipeline.specs.Calls.{Begun, start, run}
+use Rattle.pipeline.specs.declared.CoreStarted.{CoreStarted}
+use Rattle.pipeline.specs.Calls.{start, run}
 use Rattle.plain.specs.Running.{Ran}
 use Rattle.report.specs.Lines.{line, registerLines}
 
@@ -30,7 +31,7 @@ abbrev pub budget : ℕ
 budget = 64
 
 -- the start and the run of an image
-unfoldable pub begun : List ℕ → Begun
+unfoldable pub begun : List ℕ → CoreStarted
 begun image = start (replicate 15 0) 0 0 image
 
 unfoldable pub finished : List ℕ → Ran Machine

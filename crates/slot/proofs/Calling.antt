@@ -10,10 +10,12 @@ use Rattle.writer.specs.Writer.{Answer, answerOf, writeOf}
 use Rattle.word.specs.declared.Instruction.{Instruction}
 use Rattle.pipeline.specs.declared.Core.{Core}
 use Rattle.cycle.specs.Machine as pipelined
+use Rattle.pipeline.specs.declared.CoreStarted.{CoreStarted}
 use Rattle.pipeline.specs.Calls as pipeline
 use Rattle.plain.specs.declared.Plain.{Plain}
 use Rattle.plain.specs.Machine as unpiped
 use Rattle.plain.specs.Running.{Ran, ran}
+use Rattle.plain.specs.declared.PlainStarted.{PlainStarted}
 use Rattle.plain.specs.Run as plain
 use Rattle.core_arrays.specs.CoreArray as coreArray
 use Rattle.plain_arrays.specs.PlainArray as plainArray
@@ -21,15 +23,15 @@ use Rattle.record_arrays.specs.RecordArray.{recordOf, standsForRecord}
 use Rattle.slot.specs.Calls.{Called, started, called, isRefusal, refused, unlessRefused, coreBegun, coreStart, coreCalled, coreMachine, refusalOf, coreRun, plainBegun, plainStart, plainCalled, plainRun, answer, wordOf}
 use Rattle.slot.proofs.Refusing.{core-kept, plain-kept}
 
-pub core-started : (g : List ℕ) (f e : ℕ) (mem : List ℕ) {a : ℕ} {c : Core} {p : List ℕ}
-    → _≡_ {A = pipeline.Begun} (record { answer = a; core = c }) (pipeline.start g f e mem) → p ≡ coreArray.packed c → started a p ≡ coreStart g f e mem
+pub core-started : (g : List ℕ) (f e : ℕ) (mem : List ℕ) {b : CoreStarted} {p : List ℕ}
+    → b ≡ pipeline.start g f e mem → p ≡ coreArray.packed (b .core) → started (b .answer) p ≡ coreStart g f e mem
 unfolding coreStart
-core-started g f e mem {a} q h = ap (λ (p : List ℕ). started a p) h ∙ ap coreBegun q
+core-started g f e mem {b} q h = ap (λ (p : List ℕ). started (b .answer) p) h ∙ ap coreBegun q
 
-pub plain-started : (g : List ℕ) (f e : ℕ) (mem : List ℕ) {a : ℕ} {c : Plain} {p : List ℕ}
-    → _≡_ {A = plain.Begun} (record { answer = a; plain = c }) (plain.start g f e mem) → p ≡ plainArray.packed c → started a p ≡ plainStart g f e mem
+pub plain-started : (g : List ℕ) (f e : ℕ) (mem : List ℕ) {b : PlainStarted} {p : List ℕ}
+    → b ≡ plain.start g f e mem → p ≡ plainArray.packed (b .plain) → started (b .answer) p ≡ plainStart g f e mem
 unfolding plainStart
-plain-started g f e mem {a} q h = ap (λ (p : List ℕ). started a p) h ∙ ap plainBegun q
+plain-started g f e mem {b} q h = ap (λ (p : List ℕ). started (b .answer) p) h ∙ ap plainBegun q
 
 -- where a run is refused, and where it is not
 module _ (words mem : List ℕ) (r : Called) where

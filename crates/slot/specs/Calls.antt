@@ -8,10 +8,12 @@ use Rattle.bits.specs.Choice.{pick}
 use Rattle.writer.specs.Writer.{Answer, noWordFor, writeOf}
 use Rattle.pipeline.specs.declared.Core.{Core}
 use Rattle.cycle.specs.Machine as pipelined
+use Rattle.pipeline.specs.declared.CoreStarted.{CoreStarted}
 use Rattle.pipeline.specs.Calls as pipeline
 use Rattle.plain.specs.Refused.{recordRefused, otherMemory}
 use Rattle.plain.specs.Machine as unpiped
 use Rattle.plain.specs.Running.{Ran}
+use Rattle.plain.specs.declared.PlainStarted.{PlainStarted}
 use Rattle.plain.specs.Run as plain
 use Rattle.core_arrays.specs.CoreArray as coreArray
 use Rattle.plain_arrays.specs.PlainArray as plainArray
@@ -47,7 +49,7 @@ refused answer words mem = called answer 0 words mem
 abbrev pub unlessRefused : List ℕ → List ℕ → Called → Called
 unlessRefused words mem r = pick (isRefusal (r .answer)) (refused (r .answer) words mem) r
 
-abbrev pub coreBegun : pipeline.Begun → Started
+abbrev pub coreBegun : CoreStarted → Started
 coreBegun b = started (b .answer) (coreArray.packed (b .core))
 
 -- registers, flags, entry, memory
@@ -79,7 +81,7 @@ coreRun words mem budget =
     (unlessRefused words mem (coreCalled (pipeline.run (length mem) budget (coreMachine (coreArray.unpacked words) mem))))
     (refused (refusalOf words (length mem)) words mem)
 
-abbrev pub plainBegun : plain.Begun → Started
+abbrev pub plainBegun : PlainStarted → Started
 plainBegun b = started (b .answer) (plainArray.packed (b .plain))
 
 unfoldable pub plainStart : List ℕ → ℕ → ℕ → List ℕ → Started
