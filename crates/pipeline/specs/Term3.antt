@@ -1,5 +1,5 @@
 -- Term 3: what every list of run calls from an accepted start answers and leaves, in terms of the plain machine.
-use Prim.Native.Nat.{ℕ, zero, suc, _+_, _-_, _≤_, _<_}
+use Prim.Native.Nat.{ℕ, zero, suc, _+_, _-_, _^_, _≤_, _<_}
 use mathlib.Core.Path.{_≡_}
 use mathlib.Core.Bool.{false}
 use mathlib.Core.List.{List, [], _∷_}
@@ -10,7 +10,7 @@ use Rattle.plain.specs.Run as plain-calls
 use Rattle.plain.specs.Starts.{Answered}
 use Rattle.plain.specs.Trace.{trace, stopMet, durations, Does}
 use Rattle.steps.specs.declared.Phase.the-variants.{Step1}
-use Rattle.cycle.specs.Machine.{Machine, machine, mostCycles}
+use Rattle.cycle.specs.Machine.{Machine, machine}
 use Rattle.refusals.specs.Numbers.{bad}
 use Rattle.cycle.specs.Cycle.{cycle}
 use Rattle.runs.specs.Boundary.{boundary, lead}
@@ -79,7 +79,7 @@ replyOf r = reply (r .answer) (r .used)
 pub record Accepted (n t : ℕ) (c : Call) : Type 0 where
   pub lent : length (c .memory) ≡ n
   pub small : c .budget ≤ 1000000
-  pub near : t + c .budget ≤ mostCycles
+  pub near : t + c .budget ≤ 2 ^ 40
 
 abbrev pub Refused : ℕ → ℕ → Call → Type 0
 Refused n t c = Accepted n t c → ⊥
@@ -104,7 +104,7 @@ pub data Answers (p : plain.Machine) (n t q : ℕ) (c : Call) : Reply → ℕ �
   -- else the budget is above 1,000,000
   too-many : length (c .memory) ≡ n → 1000000 < c .budget → Answers p n t q c (reply 3 0) t q
   -- else total plus budget is above 2^40
-  too-far : length (c .memory) ≡ n → c .budget ≤ 1000000 → mostCycles < t + c .budget → Answers p n t q c (reply 13 0) t q
+  too-far : length (c .memory) ≡ n → c .budget ≤ 1000000 → 2 ^ 40 < t + c .budget → Answers p n t q c (reply 13 0) t q
   -- an accepted run repeats a stop answered earlier, with 0 cycles
   repeats : Accepted n t c → q ≢ 0 → Answers p n t q c (reply q 0) t q
   -- else, if the stop total is below total plus budget, it answers the plain machine's stop and uses the difference
