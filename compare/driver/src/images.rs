@@ -1,6 +1,6 @@
 //! The images that are timed. Each loops without end.
 
-use interpreter::arm::Shift;
+use interpreter::arm::{decode, Instruction, Shift};
 use interpreter::assembler::*;
 use interpreter::programs::Program;
 
@@ -16,13 +16,25 @@ pub const MESSAGE: u32 = 0x400;
 pub const MESSAGE_BYTES: u32 = 64;
 pub const RESULT: u32 = 0x800;
 
-pub const NAMES: [&str; 3] = ["alu", "transfers", "crc"];
+pub const NAMES: [&str; 4] = ["alu", "transfers", "crc", "mix"];
 
 pub fn image(name: &str) -> Option<Program> {
     match name {
         "alu" => Some(alu()),
         "transfers" => Some(transfers()),
         "crc" => Some(crc()),
+        "mix" => Some(mix()),
+        _ => None,
+    }
+}
+
+/// Another word that does the same, if this one is a move or a compare: the field that it has no
+/// use for is changed.
+pub fn twin(word: u32) -> Option<u32> {
+    match decode(word) {
+        Instruction::Processing(it) if [MOV, MVN].contains(&it.operation) => Some(word ^ 1 << 16),
+        // A compare with Rd 15 sets other flags.
+        Instruction::Processing(it) if it.only_compares() && it.rd < 14 => Some(word ^ 1 << 12),
         _ => None,
     }
 }
@@ -128,6 +140,34 @@ fn crc() -> Program {
     program(&code, [0; 15])
 }
 
+/// Single loads and stores of words and bytes, indexed before and after, by numbers and by
+/// registers, with sums and a compare between them.
+fn mix() -> Program {
+    let code = [
+        mov(8, rotated(11, 1)),  // 0x400
+        mov(9, rotated(11, 2)),  // 0x800
+        mov(11, rotated(11, 3)), // 0xC00
+        mov(7, number(4)),
+        mov(10, number(16)),        // turns
+        single(LOAD | UP, 0, 8, 4), // 20: turn
+        op(ADD, 1, 1, by_amount(0, Shift::Ror, 5)),
+        single_by(STORE | BEFORE | UP, 1, 9, by_amount(10, Shift::Lsl, 2)),
+        single(LOAD | BEFORE | UP | BYTE, 2, 9, 5),
+        op(EOR, 3, 3, plain(2)),
+        single(STORE | UP | BYTE, 3, 11, 1),
+        single_by(LOAD | BEFORE | UP | BYTE, 4, 8, plain(10)),
+        ops(CMP, 0, 4, plain(2)),
+        on(CS, op(SUB, 5, 4, plain(2))),
+        single(STORE | BEFORE | UP | W, 5, 9, 4),
+        single_by(LOAD, 6, 9, plain(7)), // takes the base back
+        op(ADC, 3, 6, plain(3)),
+        ops(SUB, 10, 10, number(1)),
+        on(NE, branch_to(72, 20)),
+        branch_to(76, 0),
+    ];
+    program(&code, [0; 15])
+}
+
 #[cfg(test)]
 mod tests {
     use super::*;
@@ -152,6 +192,26 @@ mod tests {
                 assert_eq!(plain.run(&mut memory, 1_000_000), (0, 1_000_000), "{name}");
             }
         }
+    }
+
+    #[test]
+    fn twins_do_the_same() {
+        let same = |word: u32| {
+            let run = |word: u32| {
+                let program = program(&[word, branch_to(4, 0)], [0x9876_5432; 15]);
+                let mut memory = program.memory();
+                let (_, mut plain) = Plain::start(program.r, 5, 0, &memory);
+                assert_eq!(plain.run(&mut memory, 8), (0, 8));
+                plain
+            };
+            let twin = twin(word).unwrap();
+            twin != word && run(word) == run(twin)
+        };
+        assert!(same(mov(3, number(7))));
+        assert!(same(ops(MVN, 14, 0, by_amount(4, Shift::Lsr, 3))));
+        assert!((TST..=CMN).all(|operation| same(ops(operation, 13, 2, number(9)))));
+        assert_eq!(twin(ops(CMP, 14, 2, plain(1))), None);
+        assert_eq!(twin(op(ADD, 0, 2, plain(1))), None);
     }
 
     #[test]

@@ -8,3 +8,4 @@ pub mod odd;
 pub mod pair;
 pub mod records;
 pub mod words;
+pub mod writes;

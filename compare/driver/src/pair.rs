@@ -4,6 +4,7 @@ use crate::archive::{self, CoreArray, PlainArray};
 use crate::difference::{CallDifference, Outcome};
 use crate::records;
 use interpreter::answers::{BAD_RECORD, OTHER_MEMORY};
+use interpreter::memory;
 use interpreter::pipeline::Core;
 use interpreter::plain::Plain;
 
@@ -164,6 +165,11 @@ impl<M: Machine> Pair<M> {
     pub fn poke(&mut self, address: usize, byte: u8) {
         self.product_memory[address] = byte;
         self.expected_memory[address] = byte;
+    }
+
+    pub fn poke_word(&mut self, address: u32, word: u32) {
+        memory::set_word(&mut self.product_memory, address, word);
+        memory::set_word(&mut self.expected_memory, address, word);
     }
 
     /// The most bytes that can be lent.

@@ -111,6 +111,12 @@ fn shift_kind(word: u32) -> Shift {
 
 /// Reads a word. The condition plays no part in it.
 pub fn decode(word: u32) -> Instruction {
+    decode_inline(word)
+}
+
+/// The same inside its caller, which then works out no more fields than it uses.
+#[inline(always)]
+pub fn decode_inline(word: u32) -> Instruction {
     match bits(word, 27, 25) {
         0 | 1 => decode_processing(word),
         2 | 3 => decode_single(word),
@@ -131,6 +137,7 @@ pub fn decode(word: u32) -> Instruction {
     }
 }
 
+#[inline(always)]
 fn decode_processing(word: u32) -> Instruction {
     let operand = if bit(word, 25) {
         Operand::Constant {
@@ -161,6 +168,7 @@ fn decode_processing(word: u32) -> Instruction {
     })
 }
 
+#[inline(always)]
 fn decode_single(word: u32) -> Instruction {
     let offset = if !bit(word, 25) {
         Offset::Number(bits(word, 11, 0))

@@ -28,6 +28,13 @@ pub fn fetch(memory: &[u8], address: u32) -> Option<u32> {
     inside(address, memory.len()).then(|| word(memory, address))
 }
 
+/// The same with one test for the four bytes; `address` is a multiple of 4.
+pub fn fetch_at_once(memory: &[u8], address: u32) -> Option<u32> {
+    let first = address as usize;
+    let bytes = memory.get(first..first + 4)?;
+    Some(u32::from_le_bytes(bytes.try_into().expect("four bytes")))
+}
+
 /// What a load takes from `address`: a byte zero-extended, or the word rotated right by 8 times
 /// the low two address bits.
 pub fn load(memory: &[u8], address: u32, byte: bool) -> u32 {

@@ -1,9 +1,11 @@
-//! The core: a cycle at a time, with fetch registers and latches.
+//! The core: a cycle at a time, with fetch registers and latches. The product's core is timed
+//! against it: the parts of a cycle, called from one place each, end up in one loop.
 
 use crate::answers::*;
 use crate::arm::{
-    compute, constant, counter, counter_of, decode, forbidden, passes, r15_word, shift_by_amount,
-    shift_by_register, Block, Instruction, Offset, Operand, Processing, Shifted, Single, C,
+    compute, constant, counter, counter_of, decode_inline, forbidden, passes, r15_word,
+    shift_by_amount, shift_by_register, Block, Branch, Instruction, Offset, Operand, Processing,
+    Shifted, Single, C,
 };
 use crate::memory;
 
@@ -76,7 +78,7 @@ impl Core {
     }
 
     /// The answer, the cycles used and the core afterwards.
-    pub fn run(self, memory: &mut [u8], budget: u64) -> (u32, u64, Core) {
+    pub fn run(mut self, memory: &mut [u8], budget: u64) -> (u32, u64, Core) {
         let refusal = self.run_refusal(memory, budget);
         if refusal != FINE {
             return (refusal, 0, self);
@@ -84,14 +86,8 @@ impl Core {
         if self.stop != 0 {
             return (self.stop, 0, self);
         }
-        let mut core = self;
-        for used in 0..budget {
-            core = core.cycle(memory);
-            if core.stop != 0 {
-                return (core.stop, used, core);
-            }
-        }
-        (FINE, budget, core)
+        let used = self.do_cycles(memory, budget);
+        (self.stop, used, self)
     }
 
     fn run_refusal(&self, memory: &[u8], budget: u64) -> u32 {
@@ -133,7 +129,7 @@ impl Core {
         if !passes(word >> 28, self.flags) {
             return false;
         }
-        let instruction = decode(word);
+        let instruction = decode_inline(word);
         if forbidden(&instruction) {
             return false;
         }
@@ -164,54 +160,214 @@ impl Core {
     /// Does one cycle, or sets the stop that is found before step 1, which costs no cycle. The
     /// core is a good one without a stop, and the memory is its own.
     pub fn cycle(mut self, memory: &mut [u8]) -> Core {
-        if self.phase == Phase::Step(1) {
-            self.stop = self.stop_found();
-            if self.stop != 0 {
-                return self;
-            }
-        }
-        self.cycles += 1;
-        match self.phase {
-            Phase::Refill1 => {
-                self.fetch(memory);
-                self.leave(Phase::Refill2);
-            }
-            Phase::Refill2 => self.refill_2(memory),
-            Phase::Step(1) => self.step_1(memory),
-            Phase::Step(step) => self.later_step(step, memory),
-        }
+        self.do_cycles(memory, 1);
         self
     }
 
-    // The stop before step 1.
+    /// Does so many cycles, fewer where a stop is found and set: how many.
+    fn do_cycles(&mut self, memory: &mut [u8], budget: u64) -> u64 {
+        for done in 0..budget {
+            if let Err(stop) = self.advance(memory) {
+                self.stop = stop;
+                return done;
+            }
+        }
+        budget
+    }
 
-    fn stop_found(&self) -> u32 {
-        let Some(word) = self.ix else {
-            return NO_WORD;
-        };
+    /// Does one cycle, or gives the stop and changes nothing.
+    fn advance(&mut self, memory: &mut [u8]) -> Result<(), u32> {
+        match self.phase {
+            Phase::Refill1 => self.refill_1(memory),
+            Phase::Refill2 => self.refill_2(memory),
+            Phase::Step(1) => self.step_1(memory)?,
+            Phase::Step(step) => self.later_step(step, memory),
+        }
+        self.cycles += 1;
+        Ok(())
+    }
+
+    // Parts of a cycle.
+
+    fn carry(&self) -> bool {
+        self.flags & C != 0
+    }
+
+    /// IR2 becomes IR1, IR1 the word at PC, PC+4.
+    fn fetch(&mut self, memory: &[u8]) {
+        self.ir2 = self.ir1;
+        self.ir1 = memory::fetch_at_once(memory, self.pc);
+        self.pc = counter(self.pc.wrapping_add(4));
+    }
+
+    /// Goes on to a phase; latches that it needs are filled afterwards.
+    fn leave(&mut self, next: Phase) {
+        self.phase = next;
+        self.address = 0;
+        self.data = 0;
+        self.base = 0;
+    }
+
+    /// The end of the last cycle of an instruction or of a start. Where this cycle fetched, the old
+    /// IR1 has become IR2, so that IX takes IR2 in any case.
+    fn boundary(&mut self) {
+        self.leave(Phase::Step(1));
+        self.ix = self.ir2;
+    }
+
+    /// The boundary after an instruction.
+    fn retire(&mut self) {
+        self.retired += 1;
+        self.boundary();
+    }
+
+    /// A stored counter; IX keeps its word through the refills.
+    fn store_counter(&mut self, target: u32) {
+        self.pc = target;
+        self.leave(Phase::Refill1);
+    }
+
+    fn refill_1(&mut self, memory: &[u8]) {
+        self.fetch(memory);
+        self.leave(Phase::Refill2);
+    }
+
+    /// The start's refills have IX blank.
+    fn refill_2(&mut self, memory: &[u8]) {
+        self.fetch(memory);
+        if self.ix.is_some() {
+            self.retire();
+        } else {
+            self.boundary();
+        }
+    }
+
+    /// A register, R15 being the flags with `r15`.
+    fn read_with_flags(&self, name: usize, r15: u32) -> u32 {
+        if name == 15 {
+            r15_word(self.flags, r15)
+        } else {
+            self.r[name]
+        }
+    }
+
+    // Step 1, and the stop before it. PC is A+8 until the fetch.
+
+    fn step_1(&mut self, memory: &[u8]) -> Result<(), u32> {
+        let word = self.ix.ok_or(NO_WORD)?;
         if !passes(word >> 28, self.flags) {
-            return FINE;
+            self.fetch(memory);
+            self.retire();
+            return Ok(());
         }
-        let instruction = decode(word);
+        let instruction = decode_inline(word);
         if forbidden(&instruction) {
-            return FORBIDDEN;
+            return Err(FORBIDDEN);
         }
-        let (first, words, load) = match instruction {
-            Instruction::Other => return OTHER,
-            Instruction::Processing(_) | Instruction::Branch(_) => return FINE,
-            Instruction::Single(it) => (self.single_addresses(&it).0 & !3, 1, it.load),
-            Instruction::Block(it) => (self.block_addresses(&it).0, it.list.count_ones(), it.load),
+        match instruction {
+            Instruction::Processing(it) => self.process(&it, memory),
+            Instruction::Single(it) => self.begin_single(&it, memory)?,
+            Instruction::Block(it) => self.begin_block(&it, memory)?,
+            Instruction::Branch(it) => self.branch(&it, memory),
+            Instruction::Other => return Err(OTHER),
+        }
+        Ok(())
+    }
+
+    /// A shift by register is all done in step 2.
+    fn process(&mut self, it: &Processing, memory: &[u8]) {
+        let r15 = self.pc;
+        self.fetch(memory);
+        let operand = match it.operand {
+            Operand::ByRegister { .. } => return self.leave(Phase::Step(2)),
+            Operand::ByAmount { rm, shift, amount } => {
+                shift_by_amount(shift, amount, self.read_with_flags(rm, r15), self.carry())
+            }
+            Operand::Constant { rotation, value } => constant(rotation, value, self.carry()),
         };
-        let moved = |index: u32| first.wrapping_add(4 * index);
-        if !(0..words).all(|index| self.is_inside(moved(index))) {
-            return OUTSIDE;
+        self.operate(it, operand, r15);
+    }
+
+    /// The only or the second step of a processing word: `r15` is what Rn reads as 15. It has two
+    /// callers, hence the attribute.
+    #[inline(always)]
+    fn operate(&mut self, it: &Processing, operand: Shifted, r15: u32) {
+        let rn = if it.rn == 15 { r15 } else { self.r[it.rn] };
+        let computed = compute(it.operation, rn, operand, self.flags);
+        if it.sets && it.rd == 15 {
+            self.flags = computed.result >> 28;
+        } else if it.sets {
+            self.flags = computed.flags;
         }
-        // A+8 is PC before step 1.
-        let fetched = [counter(self.pc.wrapping_sub(4)), self.pc];
-        if !load && (0..words).any(|index| fetched.contains(&moved(index))) {
-            return FETCHED;
+        if it.only_compares() {
+            self.retire();
+        } else {
+            self.write_last(it.rd, computed.result);
         }
-        FINE
+    }
+
+    /// The last own step writes a register, or the counter.
+    fn write_last(&mut self, name: usize, value: u32) {
+        if name == 15 {
+            self.store_counter(counter_of(value));
+        } else {
+            self.r[name] = value;
+            self.retire();
+        }
+    }
+
+    fn branch(&mut self, it: &Branch, memory: &[u8]) {
+        let r15 = self.pc;
+        self.fetch(memory);
+        if it.link {
+            self.r[14] = r15_word(self.flags, r15.wrapping_sub(4));
+        }
+        self.store_counter(counter(r15.wrapping_add(it.distance)));
+    }
+
+    fn begin_single(&mut self, it: &Single, memory: &[u8]) -> Result<(), u32> {
+        let (address, changed) = self.single_addresses(it);
+        self.test_words(address & !3, 1, it.load)?;
+        self.fetch(memory);
+        self.leave(Phase::Step(2));
+        self.address = address;
+        if !it.load {
+            self.data = self.read_with_flags(it.rd, self.pc);
+        }
+        if it.writes_base() {
+            self.base = changed;
+        }
+        Ok(())
+    }
+
+    fn begin_block(&mut self, it: &Block, memory: &[u8]) -> Result<(), u32> {
+        let (lowest, changed) = self.block_addresses(it);
+        self.test_words(lowest, it.list.count_ones(), it.load)?;
+        self.fetch(memory);
+        self.leave(Phase::Step(2));
+        self.address = lowest;
+        if !it.load {
+            self.data = self.read_with_flags(nth_name(it.list, 0), self.pc);
+        }
+        if it.w {
+            self.base = changed;
+        }
+        Ok(())
+    }
+
+    /// The stops of `words` words, at least one, from a multiple of 4 on. All are inside memory
+    /// where the first and the last are: they are too few to go round.
+    fn test_words(&self, first: u32, words: u32, load: bool) -> Result<(), u32> {
+        let last = first.wrapping_add(4 * (words - 1));
+        if !self.is_inside(first) || !self.is_inside(last) {
+            return Err(OUTSIDE);
+        }
+        let moved = first..=last;
+        let a_4 = counter(self.pc.wrapping_sub(4));
+        if !load && (moved.contains(&a_4) || moved.contains(&self.pc)) {
+            return Err(FETCHED);
+        }
+        Ok(())
     }
 
     /// Before step 1: a single's whole address and its changed base.
@@ -246,145 +402,11 @@ impl Core {
         (lowest & !3, changed)
     }
 
-    // Parts of a cycle.
-
-    fn carry(&self) -> bool {
-        self.flags & C != 0
-    }
-
-    /// IR2 becomes IR1, IR1 the word at PC, PC+4.
-    fn fetch(&mut self, memory: &[u8]) {
-        self.ir2 = self.ir1;
-        self.ir1 = memory::fetch(memory, self.pc);
-        self.pc = counter(self.pc.wrapping_add(4));
-    }
-
-    /// Goes on to a phase; latches that it needs are filled afterwards.
-    fn leave(&mut self, next: Phase) {
-        self.phase = next;
-        self.address = 0;
-        self.data = 0;
-        self.base = 0;
-    }
-
-    /// The last cycle of an instruction or of a start.
-    fn boundary(&mut self, next_word: Option<u32>, retires: bool) {
-        self.leave(Phase::Step(1));
-        self.ix = next_word;
-        self.retired += u64::from(retires);
-    }
-
-    /// A stored counter; IX keeps its word through the refills.
-    fn store_counter(&mut self, target: u32) {
-        self.pc = target;
-        self.leave(Phase::Refill1);
-    }
-
-    fn refill_2(&mut self, memory: &[u8]) {
-        let old_ir1 = self.ir1;
-        self.fetch(memory);
-        let is_the_starts = self.ix.is_none();
-        self.boundary(old_ir1, !is_the_starts);
-    }
-
-    /// A register, R15 being the flags with PC: A+8 before the fetch of step 1, A+12 after it.
-    fn read_with_flags(&self, name: usize) -> u32 {
-        if name == 15 {
-            r15_word(self.flags, self.pc)
-        } else {
-            self.r[name]
-        }
-    }
-
-    fn ix_word(&self) -> u32 {
-        self.ix.expect("IX holds a word in its own steps")
-    }
-
-    // Step 1.
-
-    fn step_1(&mut self, memory: &[u8]) {
-        let word = self.ix_word();
-        let before = self.clone();
-        self.fetch(memory);
-        if !passes(word >> 28, self.flags) {
-            return self.boundary(before.ir1, true);
-        }
-        match decode(word) {
-            Instruction::Processing(it) => match it.operand {
-                Operand::ByRegister { .. } => self.leave(Phase::Step(2)),
-                Operand::ByAmount { rm, shift, amount } => {
-                    let value = before.read_with_flags(rm);
-                    let operand = shift_by_amount(shift, amount, value, self.carry());
-                    self.operate(&it, operand, before.pc, before.ir1);
-                }
-                Operand::Constant { rotation, value } => {
-                    let operand = constant(rotation, value, self.carry());
-                    self.operate(&it, operand, before.pc, before.ir1);
-                }
-            },
-            Instruction::Single(it) => {
-                let (address, changed) = before.single_addresses(&it);
-                self.leave(Phase::Step(2));
-                self.address = address;
-                self.data = if it.load {
-                    0
-                } else {
-                    self.read_with_flags(it.rd)
-                };
-                self.base = if it.writes_base() { changed } else { 0 };
-            }
-            Instruction::Block(it) => {
-                let (lowest, changed) = before.block_addresses(&it);
-                self.leave(Phase::Step(2));
-                self.address = lowest;
-                self.data = if it.load {
-                    0
-                } else {
-                    self.read_with_flags(it.names()[0])
-                };
-                self.base = if it.w { changed } else { 0 };
-            }
-            Instruction::Branch(it) => {
-                if it.link {
-                    self.r[14] = r15_word(self.flags, before.pc.wrapping_sub(4));
-                }
-                self.store_counter(counter(before.pc.wrapping_add(it.distance)));
-            }
-            Instruction::Other => unreachable!("a stop comes before step 1"),
-        }
-    }
-
-    /// The only or the second step of a processing word: `r15` is what Rn reads as 15, and
-    /// `next_word` is what IX takes unless the counter is stored.
-    fn operate(&mut self, it: &Processing, operand: Shifted, r15: u32, next_word: Option<u32>) {
-        let rn = if it.rn == 15 { r15 } else { self.r[it.rn] };
-        let computed = compute(it.operation, rn, operand, self.flags);
-        if it.sets && it.rd == 15 {
-            self.flags = computed.result >> 28;
-        } else if it.sets {
-            self.flags = computed.flags;
-        }
-        if it.only_compares() {
-            self.boundary(next_word, true);
-        } else {
-            self.write_last(it.rd, computed.result, next_word);
-        }
-    }
-
-    /// The last own step writes a register, or the counter.
-    fn write_last(&mut self, name: usize, value: u32, next_word: Option<u32>) {
-        if name == 15 {
-            self.store_counter(counter_of(value));
-        } else {
-            self.r[name] = value;
-            self.boundary(next_word, true);
-        }
-    }
-
     // Steps 2 and later: PC is A+12.
 
     fn later_step(&mut self, step: u32, memory: &mut [u8]) {
-        match decode(self.ix_word()) {
+        let word = self.ix.expect("IX holds a word in its own steps");
+        match decode_inline(word) {
             Instruction::Processing(it) => self.second_step(&it),
             Instruction::Single(it) => self.single_step(&it, step, memory),
             Instruction::Block(it) if it.load => self.block_load_step(&it, step, memory),
@@ -397,14 +419,14 @@ impl Core {
         let Operand::ByRegister { rm, shift, rs } = it.operand else {
             unreachable!("only a shift by register has a second step");
         };
-        let value = self.read_with_flags(rm);
+        let value = self.read_with_flags(rm, self.pc);
         let operand = shift_by_register(shift, self.r[rs], value, self.carry());
-        self.operate(it, operand, self.pc, self.ir2);
+        self.operate(it, operand, self.pc);
     }
 
     fn single_step(&mut self, it: &Single, step: u32, memory: &mut [u8]) {
         if step == 3 {
-            return self.write_last(it.rd, self.data, self.ir2);
+            return self.write_last(it.rd, self.data);
         }
         if it.writes_base() {
             self.r[it.rn] = self.base;
@@ -415,43 +437,45 @@ impl Core {
             self.data = value;
         } else {
             memory::store(memory, self.address, self.data, it.byte);
-            self.boundary(self.ir2, true);
+            self.retire();
         }
     }
 
     fn block_load_step(&mut self, it: &Block, step: u32, memory: &[u8]) {
-        let names = it.names();
-        let n = names.len() as u32;
+        let n = it.list.count_ones();
         if step == n + 2 {
-            return self.write_last(names[n as usize - 1], self.data, self.ir2);
+            return self.write_last(nth_name(it.list, n - 1), self.data);
         }
         if step > 2 {
-            self.r[names[step as usize - 3]] = self.data;
+            self.r[nth_name(it.list, step - 3)] = self.data;
         } else if it.w {
             self.r[it.rn] = self.base;
         }
         let address = self.address;
         self.leave(Phase::Step(step + 1));
         self.data = memory::word(memory, address);
-        self.address = if step == n + 1 {
-            0
-        } else {
-            address.wrapping_add(4)
-        };
+        if step < n + 1 {
+            self.address = address.wrapping_add(4);
+        }
     }
 
     fn block_store_step(&mut self, it: &Block, step: u32, memory: &mut [u8]) {
-        let names = it.names();
-        memory::set_word(memory, self.address, self.data);
+        let address = self.address;
+        memory::set_word(memory, address, self.data);
         if step == 2 && it.w {
             self.r[it.rn] = self.base;
         }
-        if step == names.len() as u32 + 1 {
-            return self.boundary(self.ir2, true);
+        if step == it.list.count_ones() + 1 {
+            return self.retire();
         }
-        let address = self.address;
         self.leave(Phase::Step(step + 1));
         self.address = address.wrapping_add(4);
-        self.data = self.read_with_flags(names[step as usize - 1]);
+        self.data = self.read_with_flags(nth_name(it.list, step - 1), self.pc);
     }
+}
+
+/// The register that is named after `earlier` others in a list.
+fn nth_name(list: u32, earlier: u32) -> usize {
+    let left = (0..earlier).fold(list, |left, _| left & (left - 1));
+    left.trailing_zeros() as usize
 }

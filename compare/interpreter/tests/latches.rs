@@ -356,3 +356,20 @@ fn unneeded_latches_are_cleared_by_the_next_cycle() {
     let (_, _, clean) = core.run(&mut lent, 1);
     assert_eq!(after, clean);
 }
+
+#[test]
+fn a_cycle_is_a_run_of_budget_1() {
+    let (mut core, mut lent) = before(block(LOAD | UP | W, 1, 0b101), registers(&[(1, 64)]), 0);
+    let mut same = lent.clone();
+    for _ in 0..40 {
+        let by_cycle = core.clone().cycle(&mut lent);
+        let (_, _, by_run) = core.run(&mut same, 1);
+        assert_eq!((&by_cycle, &lent), (&by_run, &same));
+        if by_cycle.stop != 0 {
+            assert_eq!(by_cycle.stop, 21);
+            return;
+        }
+        core = by_run;
+    }
+    panic!("no stop");
+}

@@ -1,6 +1,7 @@
 pub mod Moved
 pub mod Flags
 pub mod Sums
+pub mod Cases
 pub mod Counters
 pub mod Marked
 pub mod Integers

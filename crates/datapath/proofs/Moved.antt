@@ -12,9 +12,9 @@ use lib.Bits.{bitOr, or-self, or-shifted-r}
 use lib.Pow.{pow-pos, pow-mono, pow-add, shr-lt, shl-shr, mod-pow-add, ones-split, high, ones-lt}
 use borrow.Author.Tests.{lt-leb, ne-eqb}
 use Rattle.bits.specs.Choice.{pick}
-use Rattle.bits.specs.Bits.{field}
+use Rattle.bits.specs.Bits.{bit, field}
 use Rattle.bits.proofs.Fields.{num-bit}
-use Rattle.datapath.specs.Shifter.{shifted, signed}
+use Rattle.datapath.specs.Shifter.{shifted, signed, lsl, lsr}
 
 -- a word of j + k bits moved right by j places
 left-lt : (v j k : ℕ) → v < 2 ^ (j + k) → v / 2 ^ j < 2 ^ k
@@ -64,12 +64,20 @@ turned-word-or v (suc n) h l =
     (at-32 (λ (w : ℕ). v < 2 ^ w → bitOr (v / 2 ^ suc n) (v * 2 ^ (32 - suc n) % 2 ^ w) ≡ turned v (suc n) (32 - suc n)) (suc n) l (turned-or v (suc n) (32 - suc n)) h)
 
 -- by n places, from 32 on, all is 0, and only by 32 is there a carry
-abbrev pub Out : (ℕ → ℕ) → (ℕ → Bool) → ℕ → Type 0
+abbrev Out : (ℕ → ℕ) → (ℕ → Bool) → ℕ → Type 0
 Out value carry n = pick (leb n 32) (shifted (value n) (carry n)) (shifted 0 false) ≡ shifted 0 (eqb n 32 && carry 32)
 
-pub moved-out : (value : ℕ → ℕ) (carry : ℕ → Bool) (n : ℕ) → value 32 ≡ 0 → 32 ≤ n → Out value carry n
+moved-out : (value : ℕ → ℕ) (carry : ℕ → Bool) (n : ℕ) → value 32 ≡ 0 → 32 ≤ n → Out value carry n
 moved-out value carry n e h =
     ⊎-elim (λ (q : 32 ≡ n). subst (Out value carry) q (rw e)) (λ (l : 32 < n). simp (lt-leb n 32 l, ne-eqb n 32 (ne-of-gt l))) (eq-or-lt-of-le h)
+
+pub lsl-out : {n : ℕ} → 32 ≤ n → (v : ℕ) → lsl v n ≡ shifted 0 (eqb n 32 && bit v 0)
+unfolding lsl
+lsl-out l v = moved-out (λ (n : ℕ). v * 2 ^ n % 2 ^ 32) (λ (n : ℕ). bit v (32 - n)) _ (mul-mod-left v (2 ^ 32)) l
+
+pub lsr-out : {v n : ℕ} → v < 2 ^ 32 → 32 ≤ n → lsr v n ≡ shifted 0 (eqb n 32 && bit v 31)
+unfolding lsr
+lsr-out {v} h l = moved-out (λ (n : ℕ). v / 2 ^ n) (λ (n : ℕ). bit v (n - 1)) _ (omega arith) l
 
 -- 31 places leave nothing but sign
 pub signed-whole : (v : ℕ) → v < 2 ^ 32 → signed v 31 ≡ signed v 32

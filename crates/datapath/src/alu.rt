@@ -1,6 +1,7 @@
 // The ALU: the sixteen operations, and the flags they leave with S (paper 01, "Operations 0-15").
 ghost use mathlib.Core.Path.{_≡_};
-ghost use Prim.Native.Nat.{_*_, _≤_};
+ghost use mathlib.Core.Bool.{Bool, true};
+ghost use Prim.Native.Nat.{ℕ, _*_, _≤_};
 ghost use Rattle.bits.specs.Bits.{num};
 ghost use Rattle.datapath.specs.Alu.{computed, sumOverflows, differenceOverflows, sum, difference, operate, storesResult, flagsOf, carryOf, overflowOf};
 use super::Computed;
@@ -76,6 +77,36 @@ pub fn operate(op: u32, a: u32, b: u32, s: bool, c: bool, v: bool) -> Computed
     }
 }
 
+// The result alone, for an instruction that leaves the flags.
+pub fn result(op: u32, a: u32, b: u32, c: bool) -> u32
+    ensures { λ r. ⌜ ((s v : Bool) → r ≡ operate op a b s c v .value) ⌝ }
+{
+    match op {
+        0 | 8 => a & b,
+        1 | 9 => a ^ b,
+        2 | 10 => difference(a, b, true).value,
+        3 => difference(b, a, true).value,
+        4 | 11 => sum(a, b, false).value,
+        5 => sum(a, b, c).value,
+        6 => difference(a, b, c).value,
+        7 => difference(b, a, c).value,
+        12 => a | b,
+        13 => b,
+        14 => a & !b,
+        _ => !b,
+    }
+}
+
+// Whether an operation makes C itself, so that the shifter's carry is not asked for.
+pub fn makes_carry(op: u32) -> bool
+    ensures { λ r. ⌜ (r ≡ true → (a b : ℕ) (s t c v : Bool) → operate op a b s c v ≡ operate op a b t c v) ⌝ }
+{
+    match op {
+        2 | 3 | 4 | 5 | 6 | 7 | 10 | 11 => true,
+        _ => false,
+    }
+}
+
 // TST to CMN store no result.
 pub fn stores_result(op: u32) -> bool
     ensures { λ r. ⌜ r ≡ storesResult op ⌝ }
@@ -99,6 +130,13 @@ pub fn flags_of(r: Computed) -> u32
         + placed(r.value == 0, 4)
         + placed(r.carry, 2)
         + placed(r.overflow, 1)
+}
+
+// The flags that S makes of an operation, with the flags before it.
+pub fn made_flags(op: u32, a: u32, b: u32, s: bool, flags: u32) -> u32
+    ensures { λ f. ⌜ f ≡ flagsOf (operate op a b s (carryOf flags) (overflowOf flags)) ⌝ }
+{
+    flags_of(operate(op, a, b, s, carry_of(flags), overflow_of(flags)))
 }
 
 pub fn carry_of(flags: u32) -> bool

@@ -2,6 +2,7 @@
 pub mod alu;
 pub mod counter;
 pub mod shifter;
+pub mod value;
 
 // A value out of the shifter, and its carry out.
 pub struct Shifted {

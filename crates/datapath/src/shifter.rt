@@ -14,7 +14,7 @@ pub fn rotate(v: u32, n: u32) -> u32
 }
 
 // Moved right, and filled with the sign.
-fn signed(v: u32, n: u32) -> u32
+pub fn signed(v: u32, n: u32) -> u32
     requires { ⌜ n < 32 ⌝ }
     ensures { λ r. ⌜ r ≡ signed v n ⌝ }
 {
@@ -101,7 +101,7 @@ fn shift(kind: u32, v: u32, n: u32) -> Shifted
 }
 
 // One place right, with C on top.
-fn through_carry(v: u32, carry: bool) -> u32
+pub fn through_carry(v: u32, carry: bool) -> u32
     ensures { λ r. ⌜ r ≡ v / 2 + num carry * 2 ^ 31 ⌝ }
 {
     v / 2 + bits::number(carry) * 0x80000000

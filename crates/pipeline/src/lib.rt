@@ -10,7 +10,6 @@ use memory::Board;
 use plain::numbers::start_answer;
 use refusals::numbers::at_once;
 use runs::run::run_from;
-use runs::run::run_on;
 use steps::Phase;
 
 pub struct Core {
@@ -61,36 +60,10 @@ impl Core {
         }
     }
 
-    // One cycle, or the stop found: a run with a budget of 1, by the plain loop.
-    pub fn cycle(mut self, memory: &mut [u8]) -> CoreRan
-        ensures { λ r. ⌜ ran (r .answer) (r .used) (machine (r .core .registers) (r .core .control) (now (memory .exit))) ≡ run (length (now (memory .entry))) 1 (machine (self .registers) (self .control) (now (memory .entry))) ⌝ }
-    {
-        let c = self.control;
-        let answer = at_once(memory.len(), 1, c, &self.registers);
-        if answer != 0 {
-            return CoreRan {
-                answer,
-                used: 0,
-                core: self,
-            };
-        }
-        let went = run_from(c, &mut self.registers, memory, 1);
-        let next = went.control;
-        self.control = next;
-        CoreRan {
-            answer: went.answer,
-            used: went.used,
-            core: self,
-        }
-    }
-
-    // A single cycle has no use for the quick road.
+    // Cycles until the budget is spent or a stop is found. A refused call changes nothing.
     pub fn run(mut self, memory: &mut [u8], budget: u64) -> CoreRan
         ensures { λ r. ⌜ ran (r .answer) (r .used) (machine (r .core .registers) (r .core .control) (now (memory .exit))) ≡ run (length (now (memory .entry))) budget (machine (self .registers) (self .control) (now (memory .entry))) ⌝ }
     {
-        if budget == 1 {
-            return self.cycle(memory);
-        }
         let c = self.control;
         let answer = at_once(memory.len(), budget, c, &self.registers);
         if answer != 0 {
@@ -100,7 +73,7 @@ impl Core {
                 core: self,
             };
         }
-        let went = run_on(c, &mut self.registers, memory, budget);
+        let went = run_from(c, &mut self.registers, memory, budget);
         let control = went.control;
         self.control = control;
         CoreRan {
@@ -108,5 +81,12 @@ impl Core {
             used: went.used,
             core: self,
         }
+    }
+
+    // One cycle, or the stop found: a run with a budget of 1.
+    pub fn cycle(self, memory: &mut [u8]) -> CoreRan
+        ensures { λ r. ⌜ ran (r .answer) (r .used) (machine (r .core .registers) (r .core .control) (now (memory .exit))) ≡ run (length (now (memory .entry))) 1 (machine (self .registers) (self .control) (now (memory .entry))) ⌝ }
+    {
+        self.run(memory, 1)
     }
 }

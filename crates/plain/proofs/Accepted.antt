@@ -1,4 +1,4 @@
--- What a start answers, by the paper's conditions; what an accepted one was given.
+-- What a start answers, by the paper's conditions; what an accepted start or run was given.
 -- Assumes nothing.
 use Prim.Native.Nat.{ℕ, _%_, _≤_}
 use mathlib.Core.Path.{_≡_, refl, sym, _∙_}
@@ -7,7 +7,9 @@ use native.Mathlib.Omega.{arith}
 use borrow.Author.Tests.{ltb-true, ltb-false, lt-ltb, le-ltb, eqb-true, eq-eqb, not-false}
 use lib.Dec.{eqb, ltb}
 use Rattle.bits.specs.Choice.{pick}
-use Rattle.plain.specs.Numbers.{badLength, badEntry, badFlags, startAnswer}
+use Rattle.plain.specs.declared.Plain.{Plain}
+use Rattle.plain.specs.Numbers.{mostBudget, badLength, badEntry, badFlags, badBudget, startAnswer, bad, refusal}
+use Rattle.plain.specs.Refused.{budgetRefused, recordRefused, otherMemory}
 use Rattle.plain.specs.Starts.{GoodLength, GoodEntry, Answered, bad-length, bad-entry, bad-flags, accepted, Starts}
 
 neither : (a b : Bool) → (a || b) ≡ false → (a ≡ false) × (b ≡ false)
@@ -70,3 +72,20 @@ given n entry flags e = go (starts n entry flags) e
     go (bad-entry l x) e = absurd (omega arith)
     go (bad-flags l i x) e = absurd (omega arith)
     go (accepted l i s) e = record { sized = l; placed = i; small = s }
+
+-- a run that is not refused has a budget of the size allowed
+pub budgeted : (p : Plain) (lent n : ℕ) {q : ℕ} → q ≡ refusal p lent n → q ≡ 0 → n ≤ mostBudget
+unfolding refusal
+budgeted p lent n e z = by-length (not (eqb lent (p .board .size))) (sym e ∙ z)
+  where
+    by-budget : (a : Bool) → badBudget n ≡ a → pick a budgetRefused 0 ≡ 0 → n ≤ mostBudget
+    by-budget true t f = absurd (omega arith)
+    by-budget false t f = ltb-false mostBudget n t
+
+    by-record : (a : Bool) → pick a recordRefused (pick (badBudget n) budgetRefused 0) ≡ 0 → n ≤ mostBudget
+    by-record true f = absurd (omega arith)
+    by-record false f = by-budget (badBudget n) refl f
+
+    by-length : (a : Bool) → pick a otherMemory (pick (bad p) recordRefused (pick (badBudget n) budgetRefused 0)) ≡ 0 → n ≤ mostBudget
+    by-length true f = absurd (omega arith)
+    by-length false f = by-record (bad p) f

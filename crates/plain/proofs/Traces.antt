@@ -31,7 +31,7 @@ goes-on m j (suc k) =
     ap step (goes-on m j k) ∙ ap (trace m) e
 
 -- the stop that a step leaves is the one met
-step-stop : (m : Machine) → step m .plain .stop ≡ stopMet m
+pub step-stop : (m : Machine) → step m .plain .stop ≡ stopMet m
 unfolding step stopMet
 step-stop m = refl
 

@@ -1,9 +1,9 @@
 pub mod Machine
-pub mod Lent
 pub mod Refused
 pub mod Numbers
 pub mod Running
 pub mod Run
 pub mod Starts
 pub mod Trace
+pub mod Whole
 pub mod Refusals

@@ -1,19 +1,18 @@
 // The plain machine (the paper's term): one instruction after the other, with no pipeline.
 ghost use mathlib.Core.Path.{_≡_};
-ghost use Rattle.plain.specs.Machine.{machine, step};
+ghost use Rattle.plain.specs.Machine.{machine};
 ghost use Rattle.plain.specs.Run.{zeroed, start, run};
 ghost use Rattle.plain.specs.Running.{ran};
 
 pub mod numbers;
 pub mod refused;
-mod run;
-mod step;
+pub mod whole;
 
 use memory::Board;
 use numbers::refusal;
 use numbers::start_answer;
-use run::run_from;
-use step::advance;
+use whole::LONGEST;
+use whole::wholes;
 
 pub struct Plain {
     pub registers: [u32; 15],
@@ -34,11 +33,13 @@ pub struct PlainRan {
     pub plain: Plain,
 }
 
-// What changes from step to step beside the registers and the memory.
-struct At {
-    a: u32,
-    flags: u32,
-    stop: u32,
+// Where whole instructions came to: the stop met or 0, and how many they were, in how many cycles.
+pub struct Came {
+    pub stop: u32,
+    pub flags: u32,
+    pub a: u32,
+    pub done: u64,
+    pub used: u64,
 }
 
 // What a refused start hands back.
@@ -98,22 +99,24 @@ impl Plain {
             };
         }
         let mut registers = self.registers;
-        let at = At {
-            a: self.a,
-            flags: self.flags,
-            stop: self.stop,
-        };
         let board = self.board;
-        let ended = run_from(&mut registers, memory, at, board, count);
-        let last = ended.at;
+        let came = wholes(
+            &mut registers,
+            memory,
+            self.flags,
+            self.a,
+            board,
+            count,
+            count * LONGEST,
+        );
         PlainRan {
-            answer: ended.answer,
-            done: ended.done,
+            answer: came.stop,
+            done: came.done,
             plain: Plain {
                 registers,
-                a: last.a,
-                flags: last.flags,
-                stop: last.stop,
+                a: came.a,
+                flags: came.flags,
+                stop: came.stop,
                 board,
             },
         }

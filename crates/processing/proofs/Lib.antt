@@ -1,2 +1,3 @@
+pub mod Parts
 pub mod ResultFlags
 pub mod R15Reads

@@ -23,18 +23,29 @@ operandOf (ShiftByAmount rm shift amount) g f pc = byAmount shift (register g rm
 operandOf (ShiftByRegister rm shift rs) g f pc =
     byRegister shift (register g rm (r15Word f pc)) (register g rs (r15Word f pc)) (carryOf f)
 
--- what the ALU makes of Rn and the operand; R15 as Rn reads as pc alone
+-- Rn's value; R15 as Rn reads as pc alone
+abbrev pub rnOf : Processing → List ℕ → ℕ → ℕ → ℕ
+rnOf i g f pc = register g (i .rn) pc
+
+-- what the ALU makes of Rn and the operand
 unfoldable pub computedOf : Processing → List ℕ → ℕ → ℕ → Shifted → Computed
 computedOf i g f pc b =
-    operate (i .operation) (register g (i .rn) pc) (b .value) (b .carry) (carryOf f) (overflowOf f)
+    operate (i .operation) (rnOf i g f pc) (b .value) (b .carry) (carryOf f) (overflowOf f)
+
+-- the same of values at hand: Rn's and the operand's
+abbrev pub computedBy : Processing → List ℕ → ℕ → ℕ → ℕ → ℕ → Computed
+computedBy i g f pc rn b = operate (i .operation) rn b (operandOf (i .operand) g f pc .carry) (carryOf f) (overflowOf f)
 
 -- the flags with S; with Rd = 15 they are result bits 31..28
 unfoldable pub flagsAfter : Processing → ℕ → Computed → ℕ
 flagsAfter i f r = pick (i .s) (pick (ltb (i .rd) 15) (flagsOf r) (field (r .value) 28 4)) f
 
 -- TST to CMN store no result
+abbrev pub resultStored : Processing → List ℕ → ℕ → ℕ → Out
+resultStored i g f value = pick (storesResult (i .operation)) (arrives g f (i .rd) value) (out g f Next)
+
 unfoldable pub stored : Processing → List ℕ → ℕ → Computed → Out
-stored i g f r = pick (storesResult (i .operation)) (arrives g (flagsAfter i f r) (i .rd) (r .value)) (out g (flagsAfter i f r) Next)
+stored i g f r = resultStored i g (flagsAfter i f r) (r .value)
 
 unfoldable pub processed : Processing → List ℕ → ℕ → ℕ → Out
 processed i g f pc = stored i g f (computedOf i g f pc (operandOf (i .operand) g f pc))

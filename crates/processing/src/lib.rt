@@ -1,16 +1,17 @@
 // Data processing: the operand, and what an instruction leaves in the registers, the flags and the counter.
 ghost use mathlib.Core.Path.{_≡_};
 ghost use Rattle.registers.specs.Registers.{out};
-ghost use Rattle.processing.specs.Processing.{operandOf, computedOf, flagsAfter, stored, processed, byRegister?, readsAt};
+ghost use Rattle.datapath.specs.Alu.{operate, carryOf, overflowOf};
+ghost use Rattle.processing.specs.Processing.{operandOf, flagsAfter, resultStored, processed, byRegister?};
+
+pub mod by_numbers;
+
 use bits::field;
-use datapath::Computed;
 use datapath::Shifted;
 use datapath::alu::carry_of;
-use datapath::alu::flags_of;
-use datapath::alu::operate;
-use datapath::alu::overflow_of;
+use datapath::alu::made_flags;
+use datapath::alu::result;
 use datapath::alu::stores_result;
-use datapath::counter::ahead;
 use datapath::counter::r15_word;
 use datapath::shifter::by_amount;
 use datapath::shifter::by_register;
@@ -21,6 +22,12 @@ use registers::arrive;
 use registers::register;
 use word::Operand;
 use word::Processing;
+
+// An operand's value alone, and what R15 reads as beside it.
+pub struct Taken {
+    pub value: u32,
+    pub pc: u32,
+}
 
 // The operand and the shifter's carry, with what R15 reads as in `pc`.
 pub fn operand(o: Operand, registers: &[u32; 15], flags: u32, pc: u32) -> Shifted
@@ -41,51 +48,45 @@ pub fn operand(o: Operand, registers: &[u32; 15], flags: u32, pc: u32) -> Shifte
 }
 
 // With S the flags come from the result: for R15 from its bits 31..28.
-fn flags_after(i: Processing, flags: u32, r: Computed) -> u32
-    ensures { λ f. ⌜ f ≡ flagsAfter i flags r ⌝ }
+fn flags_after(i: Processing, flags: u32, rn: u32, b: Shifted, value: u32) -> u32
+    requires { ⌜ value ≡ operate (i .operation) rn (b .value) (b .carry) (carryOf flags) (overflowOf flags) .value ⌝ }
+    ensures { λ f. ⌜ f ≡ flagsAfter i flags (operate (i .operation) rn (b .value) (b .carry) (carryOf flags) (overflowOf flags)) ⌝ }
 {
     if i.s {
         if i.rd < 15 {
-            flags_of(r)
+            made_flags(i.operation, rn, b.value, b.carry, flags)
         } else {
-            field(r.value, 28, 4)
+            field(value, 28, 4)
         }
     } else {
         flags
     }
 }
 
-// What the ALU makes of Rn and the operand.
-fn compute(i: Processing, registers: &[u32; 15], flags: u32, pc: u32, b: Shifted) -> Computed
-    ensures { λ r. ⌜ r ≡ computedOf i (now (registers .entry)) flags pc b ⌝ }
-{
-    let rn = register(registers, i.rn, pc);
-    let carry = carry_of(flags);
-    operate(i.operation, rn, b.value, b.carry, carry, overflow_of(flags))
-}
-
 // TST to CMN store no result.
-fn store_result(i: Processing, registers: &mut [u32; 15], flags: u32, r: Computed) -> Outcome
-    ensures { λ t. ⌜ out (now (registers .exit)) (t .flags) (t .goes) ≡ stored i (now (registers .entry)) flags r ⌝ }
+fn store_result(i: Processing, registers: &mut [u32; 15], flags: u32, value: u32) -> Outcome
+    ensures { λ t. ⌜ out (now (registers .exit)) (t .flags) (t .goes) ≡ resultStored i (now (registers .entry)) flags value ⌝ }
 {
-    let f = flags_after(i, flags, r);
     if stores_result(i.operation) {
-        arrive(registers, f, i.rd, r.value)
+        arrive(registers, flags, i.rd, value)
     } else {
         Outcome {
-            flags: f,
+            flags,
             goes: Goes::Next,
         }
     }
 }
 
+// An instruction in its last own step, with the shifter's carry made beside the operand's value.
 pub fn process(i: Processing, registers: &mut [u32; 15], flags: u32, pc: u32) -> Outcome
     ensures { λ r. ⌜ out (now (registers .exit)) (r .flags) (r .goes) ≡ processed i (now (registers .entry)) flags pc ⌝ }
 {
     let o = i.operand;
     let b = operand(o, registers, flags, pc);
-    let r = compute(i, registers, flags, pc, b);
-    store_result(i, registers, flags, r)
+    let rn = register(registers, i.rn, pc);
+    let value = result(i.operation, rn, b.value, carry_of(flags));
+    let f = flags_after(i, flags, rn, b, value);
+    store_result(i, registers, f, value)
 }
 
 pub fn shifts_by_register(o: Operand) -> bool
@@ -95,17 +96,5 @@ pub fn shifts_by_register(o: Operand) -> bool
         Operand::Constant { .. } => false,
         Operand::ShiftByAmount { .. } => false,
         Operand::ShiftByRegister { .. } => true,
-    }
-}
-
-// What R15 reads as in an instruction at `a`.
-pub fn reads_at(i: Processing, a: u32) -> u32
-    ensures { λ r. ⌜ r ≡ readsAt i a ⌝ }
-{
-    let o = i.operand;
-    if shifts_by_register(o) {
-        ahead(a, 12)
-    } else {
-        ahead(a, 8)
     }
 }

@@ -3,5 +3,5 @@ pub mod FetchedAhead
 pub mod Flight
 pub mod Instruction
 pub mod PlainSteps
-pub mod WholeSteps
+pub mod BoundaryRuns
 pub mod QuickRoad

@@ -1,25 +1,21 @@
--- The quick road of a run: cycles until step 1, and from there whole instructions by the plain machine's step.
-use Prim.Native.Nat.{ℕ, zero, suc, _+_, _-_, _≤_}
+-- The quick road of a run: where the core stands between two instructions, whole ones by the plain machine's step.
+use Prim.Native.Nat.{ℕ, _+_, _-_, _≤_}
 use mathlib.Core.Path.{_≡_}
 use mathlib.Core.Bool.{Bool, true, false, _&&_}
 use mathlib.Core.List.{List}
 use lib.Dec.{ltb, leb, eqb}
 use Rattle.bits.specs.Choice.{pick}
 use Rattle.datapath.specs.Counter.{ahead, behind, counters}
-use Rattle.memory.specs.declared.Board.{Board}
 use Rattle.memory.specs.Memory.{Memory, memoryOf, wordAt}
 use Rattle.memory.specs.declared.Fetched.{Fetched}
 use Rattle.memory.specs.declared.Fetched.the-variants.{Word, Blank}
-use Rattle.semantics.specs.declared.Performed.{Performed}
 use Rattle.plain.specs.Machine as plain
-use Rattle.plain.specs.Trace.{stopMet, duration}
 use Rattle.cycle.specs.declared.Control.{Control}
-use Rattle.runs.specs.declared.Between.{Between}
 use Rattle.plain.specs.Numbers.{mostBytes}
-use Rattle.cycle.specs.Machine.{Machine, machine, counts, mostCycles}
-use Rattle.cycle.specs.Cycle.{cycle}
+use Rattle.cycle.specs.Machine.{Machine, mostCycles}
 use Rattle.cycle.specs.StopFound.{isStep1}
 use Rattle.plain.specs.Running.{moreBy}
+use Rattle.plain.specs.Whole.{Wholes, longest, wholes, going}
 use Rattle.runs.specs.Run.{runFrom}
 use Rattle.runs.specs.Boundary.{boundary}
 
@@ -34,39 +30,6 @@ stretch used m = record { used = used; machine = m }
 -- n cycles, and s after them
 abbrev pub longer : ℕ → Stretch → Stretch
 longer n s = stretch (n + s .used) (s .machine)
-
--- ---- to step 1
-
--- cycles until step 1 or until the budget is spent
-unfoldable pub untilStep1 : ℕ → Machine → Stretch
-untilStep1 zero m = stretch 0 m
-untilStep1 (suc n) m = pick (isStep1 (m .control .phase)) (stretch 0 m) (longer 1 (untilStep1 n (cycle m)))
-
--- ---- whole instructions
-
--- a core between two instructions, as the run keeps it beside registers, board and memory: the plain machine, and the boundary core
-abbrev pub plainly : List ℕ → Between → Board → List ℕ → plain.Machine
-plainly g b board mem = plain.machine (plain.plain g (b .a) (b .flags) 0 board) mem
-
-abbrev pub between : List ℕ → Between → Board → List ℕ → Machine
-between g b board mem = boundary (plainly g b board mem) (b .counts .retired) (b .counts .cycles)
-
--- after an instruction that met no stop
-abbrev pub movedOn : Between → Performed → Between
-movedOn b r = record { a = r .next; flags = r .flags; counts = counts (b .counts .cycles + r .cycles) (b .counts .retired + 1) }
-
--- the cycles of the longest instruction: a load of sixteen registers
-abbrev pub longest : ℕ
-longest = 20
-
--- whole instructions of the plain machine p from its boundary core with k retired in t cycles, while the longest fits into the budget and no
--- stop is met; each takes a cycle or more, so that at most as many as the budget fit
-unfoldable pub wholes : ℕ → ℕ → plain.Machine → ℕ → ℕ → Stretch
-wholes zero b p k t = stretch 0 (boundary p k t)
-wholes (suc most) b p k t =
-    pick (leb longest b && eqb (stopMet p) 0)
-    (longer (duration p) (wholes most (b - duration p) (plain.step p) (suc k) (t + duration p)))
-    (stretch 0 (boundary p k t))
 
 -- ---- where whole instructions may begin
 
@@ -95,15 +58,23 @@ filled c a mem =
 unfoldable pub stands : Control → List ℕ → Bool
 stands c mem = isStep1 (c .phase) && clear c && sized c && filled c (behind (c .pipe .pc) 8) (memoryOf (c .board) mem)
 
--- where it stands, as the run keeps it
-abbrev pub placed : Control → Between
-placed c = record { a = behind (c .pipe .pc) 8; flags = c .flags; counts = c .counts }
+-- ---- whole instructions from there
 
--- whole instructions where the core stands between two, else nothing
+-- the plain machine of a core that stands there
+abbrev pub plainly : Machine → plain.Machine
+plainly m =
+    let c = m .control in
+    going (m .registers) (c .flags) (behind (c .pipe .pc) 8) (c .board) (m .memory)
+
+-- where whole instructions came to from the boundary core with k retired in t cycles
+abbrev pub reached : ℕ → ℕ → Wholes → Stretch
+reached k t w = stretch (w .used) (boundary (w .machine) (k + w .done) (t + w .used))
+
+-- where the core stands between two instructions and the longest fits: no more of them than the budget has cycles, since each takes one or more
 unfoldable pub skipped : ℕ → Machine → Stretch
 skipped b m =
     let c = m .control in
-    pick (stands c (m .memory)) (wholes b b (plainly (m .registers) (placed c) (c .board) (m .memory)) (c .counts .retired) (c .counts .cycles)) (stretch 0 m)
+    pick (leb longest b && stands c (m .memory)) (reached (c .counts .retired) (c .counts .cycles) (wholes b b (plainly m))) (stretch 0 m)
 
 -- ---- why the road is a run's
 
@@ -116,7 +87,6 @@ pub record Continues (budget : ℕ) (m : Machine) (s : Stretch) : Type 0 where
 
 pub record QuickRoad : Type 0 where
   -- where a core stands between two instructions, it is the boundary core of the plain machine
-  pub standing : (g : List ℕ) (c : Control) (mem : List ℕ) → stands c mem ≡ true → machine g c mem ≡ between g (placed c) (c .board) mem
-  -- a run goes on from step 1, and from the boundary after whole instructions
-  pub to-step1 : (b : ℕ) (m : Machine) → m .control .counts .cycles + b ≤ mostCycles → m .control .counts .retired ≤ m .control .counts .cycles → Continues b m (untilStep1 b m)
+  pub standing : (m : Machine) → stands (m .control) (m .memory) ≡ true → m ≡ boundary (plainly m) (m .control .counts .retired) (m .control .counts .cycles)
+  -- a run goes on from the boundary after whole instructions
   pub skipping : (b : ℕ) (m : Machine) → m .control .counts .cycles + b ≤ mostCycles → m .control .counts .retired ≤ m .control .counts .cycles → Continues b m (skipped b m)

@@ -3,7 +3,6 @@ mod quick;
 pub mod run;
 
 use cycle::Control;
-use cycle::Counts;
 
 // What a run hands back but the registers, which are lent: its answer, the cycles it used, and the rest of the core.
 pub struct ControlRan {
@@ -16,17 +15,4 @@ pub struct ControlRan {
 pub struct Advanced {
     pub used: u64,
     pub control: Control,
-}
-
-// A core between two instructions: where the next one is, the flags and the counts.
-pub struct Between {
-    pub a: u32,
-    pub flags: u32,
-    pub counts: Counts,
-}
-
-// The same after whole instructions, and the cycles that they used.
-pub struct BetweenAfter {
-    pub used: u64,
-    pub at: Between,
 }

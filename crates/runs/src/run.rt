@@ -6,12 +6,13 @@ ghost use Rattle.plain.specs.Running.{ran};
 ghost use Rattle.runs.specs.Run.{runFrom};
 use crate::ControlRan;
 use crate::quick::skip;
-use crate::quick::to_step1;
 use cycle::Control;
 use cycle::cycle::cycle;
 use cycle::stop::stop_found;
 
-// Cycles until the budget is spent or a stop is found. The registers are lent, so that no cycle copies them.
+// Cycles until the budget is spent or a stop is found, and on from each boundary whole instructions while the longest fits. So a
+// host's write between calls, after which the pipe holds other words than memory, costs the cycles to the next boundary. The registers
+// are lent, so that no cycle copies them.
 pub fn run_from(c: Control, registers: &mut [u32; 15], memory: &mut [u8], budget: u64) -> ControlRan
     requires { ⌜ (c .counts .cycles + budget ≤ mostCycles) × (c .counts .retired ≤ c .counts .cycles) ⌝ }
     ensures { λ r. ⌜ ran (r .answer) (r .used) (machine (now (registers .exit)) (r .control) (now (memory .exit))) ≡ runFrom budget (machine (now (registers .entry)) c (now (memory .entry))) ⌝ }
@@ -19,40 +20,26 @@ pub fn run_from(c: Control, registers: &mut [u32; 15], memory: &mut [u8], budget
     let mut at = c;
     let mut used: u64 = 0;
     while used < budget {
-        let stop = stop_found(at, registers);
-        if stop != 0 {
-            let control = Control { stop, ..at };
-            return ControlRan {
-                answer: stop,
-                used,
-                control,
-            };
+        let far = skip(at, registers, memory, budget - used);
+        at = far.control;
+        used += far.used;
+        if used < budget {
+            let stop = stop_found(at, registers);
+            if stop != 0 {
+                let control = Control { stop, ..at };
+                return ControlRan {
+                    answer: stop,
+                    used,
+                    control,
+                };
+            }
+            at = cycle(at, registers, memory);
+            used += 1;
         }
-        at = cycle(at, registers, memory);
-        used += 1;
     }
     ControlRan {
         answer: 0,
         used,
         control: at,
-    }
-}
-
-// To a boundary, whole instructions from there while the longest fits, and the rest by cycles.
-pub fn run_on(c: Control, registers: &mut [u32; 15], memory: &mut [u8], budget: u64) -> ControlRan
-    requires { ⌜ (c .counts .cycles + budget ≤ mostCycles) × (c .counts .retired ≤ c .counts .cycles) ⌝ }
-    ensures { λ r. ⌜ ran (r .answer) (r .used) (machine (now (registers .exit)) (r .control) (now (memory .exit))) ≡ runFrom budget (machine (now (registers .entry)) c (now (memory .entry))) ⌝ }
-{
-    let near = to_step1(c, registers, memory, budget);
-    let start = near.control;
-    let left = budget - near.used;
-    let far = skip(start, registers, memory, left);
-    let end = far.control;
-    let went = run_from(end, registers, memory, left - far.used);
-    let control = went.control;
-    ControlRan {
-        answer: went.answer,
-        used: near.used + (far.used + went.used),
-        control,
     }
 }

@@ -1,9 +1,11 @@
 -- No instruction takes more than 20 cycles.
 -- Assumes nothing.
 use Prim.Native.Nat.{ℕ, _+_, _≤_}
+use mathlib.Core.Path.{_≡_, refl}
 use mathlib.Core.Bool.{Bool, true, false}
 use mathlib.Core.List.{List}
 use native.Mathlib.Omega.{arith}
+use lib.Dec.{eqb}
 use Rattle.bits.specs.Choice.{pick}
 use Rattle.word.specs.declared.Processing.{Processing}
 use Rattle.word.specs.declared.Single.{Single}
@@ -14,7 +16,12 @@ use Rattle.registers.specs.declared.Goes.the-variants.{Next, To}
 use Rattle.processing.specs.Processing.{byRegister?}
 use Rattle.transfer.specs.Block.{count}
 use Rattle.transfer.proofs.NamedRegisters.{named-length}
+use Rattle.memory.specs.declared.Fetched.{Fetched}
+use Rattle.registers.specs.State.{State}
+use Rattle.stops.specs.Stops.{Due, no-word, skipped, executes, due, stopOf}
+use Rattle.semantics.specs.Effect.{effectOf}
 use Rattle.semantics.specs.Duration.{processingSteps, singleSteps, blockSteps, refills, ownSteps}
+use Rattle.semantics.specs.Perform.{executed, performedDue, performs}
 
 pub refills-short : (t : Goes) → refills t ≤ 2
 refills-short Next = omega arith
@@ -41,3 +48,16 @@ steps-short (Instruction.Single i) g = single-short i
 steps-short (Instruction.Block i) g = block-short i
 steps-short (Instruction.Branch i) g = omega arith
 steps-short (Instruction.Other w) g = omega arith
+
+pub performed-short : (x : Fetched) (s : State) → performs x s .performed .cycles ≤ 20
+unfolding performs executed
+performed-short x s = go (due x (s .status))
+  where
+    run : (i : Instruction) (b : Bool) → eqb (stopOf i s) 0 ≡ b → executed i s .performed .cycles ≤ 20
+    run i true e = rw e (omega (arith, steps-short i (s .registers), refills-short (effectOf i s .out .goes)))
+    run i false e = rw e (omega arith)
+
+    go : (d : Due) → performedDue d s .performed .cycles ≤ 20
+    go no-word = omega arith
+    go skipped = omega arith
+    go (executes i) = run i (eqb (stopOf i s) 0) refl

@@ -3,6 +3,7 @@ ghost use mathlib.Core.Path.{_≡_};
 ghost use Prim.Native.Nat.{_+_, _≤_};
 ghost use Rattle.word.specs.declared.Instruction.{Instruction};
 ghost use Rattle.word.specs.Reader.{readOf};
+ghost use Rattle.transfer.specs.Single.{changedBase, addressOf};
 ghost use Rattle.transfer.specs.Block.{named, loads};
 ghost use Rattle.datapath.specs.Counter.{ahead};
 ghost use Rattle.memory.specs.declared.Fetched.{Fetched};
@@ -28,8 +29,8 @@ use datapath::counter::counter;
 use memory::Board;
 use memory::Fetched;
 use memory::fetch;
-use processing::process;
-use processing::reads_at;
+use processing::by_numbers::process_taken;
+use processing::by_numbers::taken;
 use registers::Goes;
 use registers::Outcome;
 use registers::arrive;
@@ -37,7 +38,8 @@ use stops::NO_WORD;
 use stops::OTHER_WORD;
 use stops::stop::block_stop;
 use stops::stop::processing_stop;
-use stops::stop::single_stop;
+use stops::stop::single_stop_at;
+use transfer::Reach;
 use transfer::block;
 use transfer::single;
 use word::Block;
@@ -88,15 +90,17 @@ fn stopped(stop: u32, flags: u32, a: u32) -> Performed
     }
 }
 
+// The operand is taken first, while the reader's choice of its kind is at hand; a stop has no use for it.
 fn perform_processing(i: Processing, registers: &mut [u32; 15], flags: u32, a: u32) -> Performed
     ensures { λ r. ⌜ ((mem : Memory) → resultOf r (now (registers .exit)) mem ≡ executed (Instruction.Processing i) (state (now (registers .entry)) flags a mem)) ⌝ }
 {
+    let t = taken(i, registers, flags, a);
     let stop = processing_stop(i, registers, flags, a);
     if stop != 0 {
         return stopped(stop, flags, a);
     }
     let steps = processing_steps(i);
-    done(a, steps, process(i, registers, flags, reads_at(i, a)))
+    done(a, steps, process_taken(i, t, registers, flags))
 }
 
 // `arrive`, with each part of what it leaves told by itself.
@@ -122,46 +126,40 @@ fn base_then_register(
 
 fn load(
     i: Single,
+    at: Reach,
     registers: &mut [u32; 15],
     memory: &[u8],
     flags: u32,
     a: u32,
     board: Board,
 ) -> Performed
+    requires { ⌜ (at .base ≡ changedBase i (now registers) flags (ahead a 8)) × (at .address ≡ addressOf i (now registers) flags (ahead a 8)) ⌝ }
     ensures { λ r. ⌜ resultOf r (now (registers .exit)) (memoryOf board (now (memory .entry))) ≡ done (state (now (registers .entry)) flags a (memoryOf board (now (memory .entry)))) (singleSteps i) (loadEffect i (state (now (registers .entry)) flags a (memoryOf board (now (memory .entry))))) ⌝ }
 {
-    let pc = ahead(a, 8);
-    let base = single::changed_base(i, registers, flags, pc);
-    let value = single::loaded_value(i, memory, board, single::address(i, registers, flags, pc));
+    let value = single::loaded_value(i, memory, board, at.address);
     let steps = single_steps(i);
     done(
         a,
         steps,
-        base_then_register(i, registers, flags, base, value),
+        base_then_register(i, registers, flags, at.base, value),
     )
 }
 
 fn store(
     i: Single,
+    at: Reach,
     registers: &mut [u32; 15],
     memory: &mut [u8],
     flags: u32,
     a: u32,
     board: Board,
 ) -> Performed
+    requires { ⌜ (at .base ≡ changedBase i (now registers) flags (ahead a 8)) × (at .address ≡ addressOf i (now registers) flags (ahead a 8)) ⌝ }
     ensures { λ r. ⌜ resultOf r (now (registers .exit)) (memoryOf board (now (memory .exit))) ≡ done (state (now (registers .entry)) flags a (memoryOf board (now (memory .entry)))) (singleSteps i) (storeEffect i (state (now (registers .entry)) flags a (memoryOf board (now (memory .entry))))) ⌝ }
 {
-    let pc = ahead(a, 8);
-    let base = single::changed_base(i, registers, flags, pc);
     let value = single::stored_value(registers, i.rd, flags, ahead(a, 12));
-    single::store(
-        i,
-        memory,
-        board,
-        single::address(i, registers, flags, pc),
-        value,
-    );
-    single::write_base(i, registers, base);
+    single::store(i, memory, board, at.address, value);
+    single::write_base(i, registers, at.base);
     went_on(a, single_steps(i), flags)
 }
 
@@ -175,14 +173,15 @@ fn perform_single(
 ) -> Performed
     ensures { λ r. ⌜ resultOf r (now (registers .exit)) (memoryOf board (now (memory .exit))) ≡ executed (Instruction.Single i) (state (now (registers .entry)) flags a (memoryOf board (now (memory .entry)))) ⌝ }
 {
-    let stop = single_stop(i, registers, flags, a, board);
+    let at = single::reach(i, registers, flags, ahead(a, 8));
+    let stop = single_stop_at(i, at.address, a, board);
     if stop != 0 {
         return stopped(stop, flags, a);
     }
     if i.l {
-        load(i, registers, memory, flags, a, board)
+        load(i, at, registers, memory, flags, a, board)
     } else {
-        store(i, registers, memory, flags, a, board)
+        store(i, at, registers, memory, flags, a, board)
     }
 }
 
@@ -277,27 +276,7 @@ fn perform_branch(i: Branch, registers: &mut [u32; 15], flags: u32, a: u32) -> P
     done(a, BRANCH_STEPS, branch(i, registers, flags, a))
 }
 
-// An instruction whose condition passes.
-fn perform_instruction(
-    i: Instruction,
-    registers: &mut [u32; 15],
-    memory: &mut [u8],
-    flags: u32,
-    a: u32,
-    board: Board,
-) -> Performed
-    ensures { λ r. ⌜ resultOf r (now (registers .exit)) (memoryOf board (now (memory .exit))) ≡ executed i (state (now (registers .entry)) flags a (memoryOf board (now (memory .entry)))) ⌝ }
-{
-    match i {
-        Instruction::Processing(p) => perform_processing(p, registers, flags, a),
-        Instruction::Single(s) => perform_single(s, registers, memory, flags, a, board),
-        Instruction::Block(b) => perform_block(b, registers, memory, flags, a, board),
-        Instruction::Branch(b) => perform_branch(b, registers, flags, a),
-        Instruction::Other(_) => stopped(OTHER_WORD, flags, a),
-    }
-}
-
-// The reader of the class alone, so that it dissolves here; what a word of the extension space is, `extended` says.
+// The class by bits 27..25, each class in one place, so that its reader and its road dissolve here.
 fn execute(
     word: u32,
     registers: &mut [u32; 15],
@@ -308,48 +287,23 @@ fn execute(
 ) -> Performed
     ensures { λ r. ⌜ resultOf r (now (registers .exit)) (memoryOf board (now (memory .exit))) ≡ executed (readOf word) (state (now (registers .entry)) flags a (memoryOf board (now (memory .entry)))) ⌝ }
 {
-    match reader::class(word) {
-        0 => {
-            if bit(word, 4) {
-                if bit(word, 7) {
-                    perform_instruction(reader::extended(word), registers, memory, flags, a, board)
-                } else {
-                    perform_processing(
-                        reader::processing(word, reader::by_register(word)),
-                        registers,
-                        flags,
-                        a,
-                    )
-                }
+    if bit(word, 27) {
+        if bit(word, 26) {
+            stopped(OTHER_WORD, flags, a)
+        } else {
+            if bit(word, 25) {
+                perform_branch(reader::branch(word), registers, flags, a)
             } else {
-                perform_processing(
-                    reader::processing(word, reader::by_amount(word)),
-                    registers,
-                    flags,
-                    a,
-                )
+                perform_block(reader::block(word), registers, memory, flags, a, board)
             }
         }
-        1 => perform_processing(
-            reader::processing(word, reader::constant(word)),
-            registers,
-            flags,
-            a,
-        ),
-        2 => perform_single(
-            reader::single(word, reader::constant(word)),
-            registers,
-            memory,
-            flags,
-            a,
-            board,
-        ),
-        3 => {
-            if bit(word, 4) {
+    } else {
+        if bit(word, 26) {
+            if bit(word, 25) & bit(word, 4) {
                 stopped(OTHER_WORD, flags, a)
             } else {
                 perform_single(
-                    reader::single(word, reader::by_amount(word)),
+                    reader::single(word, reader::single_offset(word)),
                     registers,
                     memory,
                     flags,
@@ -357,10 +311,18 @@ fn execute(
                     board,
                 )
             }
+        } else {
+            if reader::is_extended(word) {
+                stopped(OTHER_WORD, flags, a)
+            } else {
+                perform_processing(
+                    reader::processing(word, reader::processing_operand(word)),
+                    registers,
+                    flags,
+                    a,
+                )
+            }
         }
-        4 => perform_block(reader::block(word), registers, memory, flags, a, board),
-        5 => perform_branch(reader::branch(word), registers, flags, a),
-        _ => stopped(OTHER_WORD, flags, a),
     }
 }
 

@@ -3,3 +3,4 @@ pub mod Marked
 pub mod BrokenRules
 pub mod StopOrder
 pub mod Hidden
+pub mod SingleStops

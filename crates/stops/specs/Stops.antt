@@ -5,6 +5,7 @@ use mathlib.Core.List.{List, [], _∷_}
 use lib.Dec.{ltb, eqb}
 use Rattle.bits.specs.Choice.{pick}
 use Rattle.bits.specs.Bits.{field}
+use Rattle.word.specs.declared.Single.{Single}
 use Rattle.word.specs.declared.Instruction.{Instruction}
 use Rattle.word.specs.Reader.{readOf, isOther}
 use Rattle.condition.specs.Condition.{passes}
@@ -15,7 +16,7 @@ use Rattle.memory.specs.declared.Fetched.the-variants.{Word, Blank}
 use Rattle.memory.specs.Memory.{place, limit}
 use Rattle.registers.specs.State.{State}
 use Rattle.stops.specs.Numbers.{noWord, otherWord, brokenRule, outsideMemory, fetchedWord}
-use Rattle.stops.specs.Rules.{ruleBroken}
+use Rattle.stops.specs.Rules.{firstBroken, singleRules, ruleBroken}
 use Rattle.stops.specs.Moves.{movedBy, storedBy}
 
 -- what is due where an instruction begins: the one place that reads a word and asks its condition
@@ -52,6 +53,11 @@ stopOf i s =
     pick (isOther i) otherWord
     (pick (not (eqb (ruleBroken i s) 0)) brokenRule
     (movedStop (movedBy i s) (storedBy i s) (s .a) (s .memory .board)))
+
+-- the same of a single transfer, by its address
+abbrev pub singleStopAt : Single → ℕ → ℕ → Board → ℕ
+singleStopAt i address a board =
+    pick (not (eqb (firstBroken 3 (singleRules i)) 0)) brokenRule (movedStop (address ∷ []) (pick (i .l) [] (address ∷ [])) a board)
 
 -- the stop of what is due, or 0: a failed condition meets none
 abbrev pub stopDue : Due → State → ℕ

@@ -9,7 +9,7 @@ ghost use Rattle.word.specs.declared.Instruction.{Instruction};
 ghost use Rattle.memory.specs.Memory.{Memory, memoryOf};
 ghost use Rattle.registers.specs.State.{state};
 ghost use Rattle.stops.specs.Moves.{span};
-ghost use Rattle.stops.specs.Stops.{hits, ordered, movedStop, stopOf, stopFor};
+ghost use Rattle.stops.specs.Stops.{hits, ordered, movedStop, singleStopAt, stopOf, stopFor};
 use crate::BROKEN_RULE;
 use crate::FETCHED_WORD;
 use crate::NO_WORD;
@@ -72,13 +72,20 @@ pub fn processing_stop(i: Processing, registers: &[u32; 15], flags: u32, a: u32)
     }
 }
 
-pub fn single_stop(i: Single, registers: &[u32; 15], flags: u32, a: u32, board: Board) -> u32
-    ensures { λ r. ⌜ ((bytes : List ℕ) → r ≡ stopOf (Instruction.Single i) (state (now (registers .entry)) flags a (memoryOf board bytes))) ⌝ }
+// Of a single transfer whose address is at hand.
+pub fn single_stop_at(i: Single, address: u32, a: u32, board: Board) -> u32
+    ensures { λ r. ⌜ r ≡ singleStopAt i address a board ⌝ }
 {
     if single_rule(i) != 0 {
         return BROKEN_RULE;
     }
-    moved_stop(address(i, registers, flags, ahead(a, 8)), 1, i.l, a, board)
+    moved_stop(address, 1, i.l, a, board)
+}
+
+pub fn single_stop(i: Single, registers: &[u32; 15], flags: u32, a: u32, board: Board) -> u32
+    ensures { λ r. ⌜ ((bytes : List ℕ) → r ≡ stopOf (Instruction.Single i) (state (now (registers .entry)) flags a (memoryOf board bytes))) ⌝ }
+{
+    single_stop_at(i, address(i, registers, flags, ahead(a, 8)), a, board)
 }
 
 pub fn block_stop(i: Block, registers: &[u32; 15], flags: u32, a: u32, board: Board) -> u32

@@ -2,9 +2,11 @@
 ghost use mathlib.Core.Path.{_≡_};
 ghost use Rattle.memory.specs.Memory.{memoryOf};
 ghost use Rattle.transfer.specs.Single.{offsetOf, moved, changedBase, addressOf, writesBase, withBase, loadedValue, storedValue, storedTo};
+use crate::Reach;
 use datapath::alu;
 use datapath::counter;
 use datapath::shifter;
+use datapath::value;
 use memory;
 use memory::Board;
 use registers;
@@ -18,12 +20,12 @@ pub fn offset(o: Operand, registers: &[u32; 15], flags: u32) -> u32
     match o {
         Operand::Constant { rotate, value } => std::num::wrapping_add_u32(rotate << 8, value),
         Operand::ShiftByAmount { rm, shift, amount } => {
-            shifter::by_amount(
+            value::by_amount(
                 shift,
                 registers::register(registers, rm, 0),
                 amount,
                 alu::carry_of(flags),
-            ).value
+            )
         }
         Operand::ShiftByRegister { .. } => 0,
     }
@@ -40,26 +42,33 @@ pub fn moved(up: bool, base: u32, offset: u32) -> u32
     }
 }
 
+// The changed base and the address, each made once: the address is the changed base, or the base if P = 0.
+pub fn reach(i: Single, registers: &[u32; 15], flags: u32, pc: u32) -> Reach
+    ensures { λ r. ⌜ (r .base ≡ changedBase i (now (registers .entry)) flags pc) × (r .address ≡ addressOf i (now (registers .entry)) flags pc) ⌝ }
+{
+    let o = i.offset;
+    let rn = registers::register(registers, i.rn, pc);
+    let base = moved(i.u, rn, offset(o, registers, flags));
+    if i.p {
+        Reach {
+            base,
+            address: base,
+        }
+    } else {
+        Reach { base, address: rn }
+    }
+}
+
 pub fn changed_base(i: Single, registers: &[u32; 15], flags: u32, pc: u32) -> u32
     ensures { λ r. ⌜ r ≡ changedBase i (now (registers .entry)) flags pc ⌝ }
 {
-    let o = i.offset;
-    moved(
-        i.u,
-        registers::register(registers, i.rn, pc),
-        offset(o, registers, flags),
-    )
+    reach(i, registers, flags, pc).base
 }
 
-// The changed base, or the base if P = 0.
 pub fn address(i: Single, registers: &[u32; 15], flags: u32, pc: u32) -> u32
     ensures { λ r. ⌜ r ≡ addressOf i (now (registers .entry)) flags pc ⌝ }
 {
-    if i.p {
-        changed_base(i, registers, flags, pc)
-    } else {
-        registers::register(registers, i.rn, pc)
-    }
+    reach(i, registers, flags, pc).address
 }
 
 pub fn writes_base(i: Single) -> bool

@@ -22,6 +22,14 @@ byAmountOf w = ShiftByAmount (field w 0 4) (field w 5 2) (field w 7 5)
 abbrev pub byRegisterOf : ℕ → Operand
 byRegisterOf w = ShiftByRegister (field w 0 4) (field w 5 2) (field w 8 4)
 
+-- the operand of a processing word, and the offset of a single's, by bits 25 and 4. Bit 25 is I: an operand is a constant where it is set, an
+-- offset where it is clear
+abbrev pub processingOperandOf : ℕ → Operand
+processingOperandOf w = pick (bit w 25) (constantOf w) (pick (bit w 4) (byRegisterOf w) (byAmountOf w))
+
+abbrev pub singleOffsetOf : ℕ → Operand
+singleOffsetOf w = pick (bit w 25) (byAmountOf w) (constantOf w)
+
 abbrev pub processingOf : ℕ → Operand → Processing
 processingOf w o = record {
   condition = field w 28 4;

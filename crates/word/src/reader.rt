@@ -1,7 +1,8 @@
 // The reader. An engine that has dispatched on bits 27..25 calls the reader of the class alone.
 ghost use mathlib.Core.Path.{_≡_};
-ghost use Rattle.bits.specs.Bits.{field};
-ghost use Rattle.word.specs.Reader.{constantOf, byAmountOf, byRegisterOf, processingOf, singleOf, blockOf, branchOf, extendedOf, classed, readOf, isOther};
+ghost use mathlib.Core.Bool.{not, _&&_};
+ghost use Rattle.bits.specs.Bits.{field, bit};
+ghost use Rattle.word.specs.Reader.{constantOf, byAmountOf, byRegisterOf, processingOperandOf, singleOffsetOf, processingOf, singleOf, blockOf, branchOf, extendedOf, classed, readOf, isOther};
 use crate::Block;
 use crate::Branch;
 use crate::Instruction;
@@ -61,6 +62,13 @@ pub fn extended(word: u32) -> Instruction
     Instruction::Other(word)
 }
 
+// Whether a word whose bits 27 and 26 are clear is of the extension space.
+pub fn is_extended(word: u32) -> bool
+    ensures { λ r. ⌜ r ≡ (not (bit word 25) && (bit word 4 && bit word 7)) ⌝ }
+{
+    !bit(word, 25) & (bit(word, 4) & bit(word, 7))
+}
+
 pub fn constant(word: u32) -> Operand
     ensures { λ r. ⌜ r ≡ constantOf word ⌝ }
 {
@@ -87,6 +95,32 @@ pub fn by_register(word: u32) -> Operand
         rm: field(word, 0, 4),
         shift: field(word, 5, 2),
         rs: field(word, 8, 4),
+    }
+}
+
+// The operand of a processing word: bit 25 is I, and bit 4 tells the two shifts apart.
+pub fn processing_operand(word: u32) -> Operand
+    ensures { λ r. ⌜ r ≡ processingOperandOf word ⌝ }
+{
+    if bit(word, 25) {
+        constant(word)
+    } else {
+        if bit(word, 4) {
+            by_register(word)
+        } else {
+            by_amount(word)
+        }
+    }
+}
+
+// The offset of a single transfer's word, where I means the other way.
+pub fn single_offset(word: u32) -> Operand
+    ensures { λ r. ⌜ r ≡ singleOffsetOf word ⌝ }
+{
+    if bit(word, 25) {
+        by_amount(word)
+    } else {
+        constant(word)
     }
 }
 

@@ -1,16 +1,17 @@
 //! Compares the product's archive with the interpreter: starts, directed images, random images,
-//! words. See the README beside the package for what each does.
+//! images rewritten between calls, words. See the README beside the package for what each does.
 //!
 //! compare                 everything
 //! compare SEED            everything, the random part from another seed
 //! compare image NUMBER    the one random image of this number, as a difference names it
+//! compare writes NUMBER   the same of the rewritten ones
 
 use driver::difference::{show, CallDifference};
 use driver::odd::{self, Fields};
 use driver::pair::{Machine, Pair};
-use driver::words;
-use driver::{archive, dense, images};
-use interpreter::pipeline::Core;
+use driver::{archive, dense, images, words, writes};
+use interpreter::memory;
+use interpreter::pipeline::{Core, Phase};
 use interpreter::plain::Plain;
 use interpreter::programs::{self, Program};
 use interpreter::random::Random;
@@ -22,6 +23,11 @@ use std::time::{Duration, Instant};
 const LEAST_IMAGES: u64 = 40_000;
 const LEAST_INSTRUCTIONS: u64 = 12_000_000;
 const LEAST_SINGLE_CYCLES: u64 = 1_500_000;
+
+/// How many images are rewritten between calls, how often each, and what counts as a long run then.
+const WRITTEN_IMAGES: u64 = 1500;
+const COPIES: u32 = 60;
+const LONG: u64 = 300;
 
 /// The strided sample takes every word of this distance; it is odd.
 const STRIDE: u32 = 61;
@@ -88,9 +94,44 @@ impl Machines {
     }
 }
 
+/// Cores whose memory got other words where they had fetched theirs.
+#[derive(Default)]
+struct Writes {
+    images: u64,
+    copies: u64,
+    words: u64,
+    /// Calls that began on a boundary where the word at A, at A+4, was not the one of IX, of IR1.
+    other_ix: u64,
+    other_ir1: u64,
+    calls: u64,
+    cycles: u64,
+    /// Calls that used LONG cycles or more, and those of them that began as above.
+    long: u64,
+    long_other: u64,
+}
+
+impl Writes {
+    fn show(&self) -> String {
+        format!(
+            "rewritten: {} images, {} copies, {} words, {} calls after them, {} cycles; {} calls began \
+             with another word at A, {} at A+4; {} took {LONG} cycles or more, {} of them with another word",
+            self.images,
+            self.copies,
+            self.words,
+            self.calls,
+            self.cycles,
+            self.other_ix,
+            self.other_ir1,
+            self.long,
+            self.long_other
+        )
+    }
+}
+
 struct Comparison {
     core: Machines,
     plain: Machines,
+    writes: Writes,
     words: u64,
     records: u64,
     differences: u64,
@@ -575,6 +616,132 @@ fn random_images(comparison: &mut Comparison, first: u64) {
     }
 }
 
+// Images rewritten between calls.
+
+/// At many moments of a long run a copy of the core gets other words and is run far.
+fn written(comparison: &mut Comparison, program: &Program, random: &mut Random) -> Checked<()> {
+    let memory = program.memory();
+    let (answer, mut pair) = Pair::<Core>::start(program.r, program.flags, program.entry, &memory)?;
+    comparison.core.starts += 1;
+    comparison.core.answers[answer as usize % 32] += 1;
+    comparison.writes.images += 1;
+    for _ in 0..COPIES {
+        let budget = random.pick(&[1, 2, 3, 7, 30, 300]);
+        let (answer, _) = counted_run(comparison, &mut pair, budget)?;
+        if answer != 0 {
+            break;
+        }
+        written_copy(comparison, pair.clone(), random)?;
+    }
+    Ok(())
+}
+
+/// Up to three times the owner writes and the core runs, mostly from a boundary.
+fn written_copy(
+    comparison: &mut Comparison,
+    mut pair: Pair<Core>,
+    random: &mut Random,
+) -> Checked<()> {
+    comparison.writes.copies += 1;
+    for _ in 0..random.below(3) + 1 {
+        if random.chance(3, 4) {
+            to_boundary(comparison, &mut pair)?;
+        }
+        let written = rewrite(&mut pair, random);
+        let (ix, ir1) = disagreements(&pair);
+        let budget = match random.below(4) {
+            0 => u64::from(random.below(40)),
+            1 => u64::from(random.below(1000)),
+            _ => random.pick(&[500, 999, 2000, 5000]),
+        };
+        let (answer, used) =
+            counted_run(comparison, &mut pair, budget).map_err(|mut difference| {
+                difference.call += &format!(", after the writes {written:X?}");
+                difference
+            })?;
+        let counts = &mut comparison.writes;
+        counts.words += written.len() as u64;
+        counts.calls += 1;
+        counts.cycles += used;
+        counts.other_ix += u64::from(ix);
+        counts.other_ir1 += u64::from(ir1);
+        counts.long += u64::from(used >= LONG);
+        counts.long_other += u64::from(used >= LONG && (ix || ir1));
+        if answer != 0 {
+            break;
+        }
+    }
+    Ok(())
+}
+
+fn counted_run(
+    comparison: &mut Comparison,
+    pair: &mut Pair<Core>,
+    budget: u64,
+) -> Checked<(u32, u64)> {
+    let counts = &mut comparison.core;
+    counts.sees(pair, budget);
+    let before = Core::instructions(pair, 0);
+    let (answer, used) = pair.run(pair.length, budget)?;
+    counts.saw(answer, used, budget);
+    counts.instructions += Core::instructions(pair, used) - before;
+    Ok((answer, used))
+}
+
+/// Single cycles until step 1 is the next.
+fn to_boundary(comparison: &mut Comparison, pair: &mut Pair<Core>) -> Checked<()> {
+    while Core::phase(pair).is_some_and(|phase| phase != 0) {
+        counted_run(comparison, pair, 1)?;
+    }
+    Ok(())
+}
+
+/// Other words for A, A+4 or both, now and then A+8 too, as they are at a boundary: which, by
+/// address.
+fn rewrite(pair: &mut Pair<Core>, random: &mut Random) -> Vec<(u32, u32)> {
+    let pc = pair.product[15];
+    let mut written = Vec::new();
+    for before in random.pick(&[&[4][..], &[4], &[8], &[8, 4], &[8, 4], &[4, 0]]) {
+        let address = pc.wrapping_sub(*before);
+        if !memory::inside(address, pair.length) {
+            continue;
+        }
+        let elsewhere = 4 * random.below(pair.length as u32 / 4);
+        let [old, elsewhere] = [address, elsewhere].map(|it| memory::word(pair.memory(), it));
+        let word = writes::word(random, old, elsewhere);
+        pair.poke_word(address, word);
+        written.push((address, word));
+    }
+    written
+}
+
+/// On a boundary: whether the words at A and at A+4 are others than those of IX and of IR1.
+fn disagreements(pair: &Pair<Core>) -> (bool, bool) {
+    match &pair.expected {
+        Some(core) if core.phase == Phase::Step(1) => {
+            let differs = |held: Option<u32>, before: u32| {
+                held != memory::fetch(pair.memory(), core.pc.wrapping_sub(before))
+            };
+            (differs(core.ix, 8), differs(core.ir1, 4))
+        }
+        _ => (false, false),
+    }
+}
+
+fn written_image(comparison: &mut Comparison, number: u64) {
+    let mut random = Random::new(number);
+    let program = writes::image(&mut random);
+    let checked = written(comparison, &program, &mut random);
+    comparison.check_call(checked, &format!("writes {number}"), &program);
+}
+
+fn written_images(comparison: &mut Comparison, first: u64) {
+    for number in first..first + WRITTEN_IMAGES {
+        written_image(comparison, number);
+        comparison.progress("rewritten images");
+    }
+}
+
 // Words.
 
 fn all_words(comparison: &mut Comparison, seed: u64) {
@@ -627,6 +794,7 @@ fn main() -> ExitCode {
     let mut comparison = Comparison {
         core: Machines::default(),
         plain: Machines::default(),
+        writes: Writes::default(),
         words: 0,
         records: 0,
         differences: 0,
@@ -637,21 +805,24 @@ fn main() -> ExitCode {
     let number = |text: &str| text.parse::<u64>().expect("a number");
     match arguments.as_slice() {
         [word, image] if word == "image" => one_image(&mut comparison, number(image)),
+        [word, image] if word == "writes" => written_image(&mut comparison, number(image)),
         [] | [_] => {
             let seed = arguments.first().map_or(1_000_000, |text| number(text));
             starts::<Core>(&mut comparison);
             starts::<Plain>(&mut comparison);
             directed(&mut comparison);
             random_images(&mut comparison, seed);
+            written_images(&mut comparison, seed);
             all_words(&mut comparison, seed);
         }
         _ => {
-            eprintln!("usage: compare [SEED | image NUMBER]");
+            eprintln!("usage: compare [SEED | image NUMBER | writes NUMBER]");
             return ExitCode::from(2);
         }
     }
     println!("{}", comparison.core.show("core", "cycles"));
     println!("{}", shown_phases(&comparison.core.phases));
+    println!("{}", comparison.writes.show());
     println!(
         "{}",
         comparison.plain.show("plain machine", "instructions used")

@@ -5,7 +5,7 @@ use Rattle.runs.proofs.quick.control_at.Tie as tie
 
 returns : tie.Need-returns
 unfolding boundary
-returns c g = rw (c .before .ahead2 .ensures, c .before .before .fetch2 .ensures, c .before .before .before .ahead .ensures, c .before .before .before .before .fetch .ensures)
+returns c g stop = rw (c .ahead2 .ensures, c .before .fetch2 .ensures, c .before .before .ahead .ensures, c .before .before .before .fetch .ensures)
 
 pub control-at-spec : {M : Type 1} → statement M
 control-at-spec = tie.close (tie.spec (λ c κs. search needs) (λ c κs. search needs) (λ c κs. search needs) (λ c κs. search needs) returns)
