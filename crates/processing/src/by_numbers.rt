@@ -7,7 +7,6 @@ ghost use Rattle.datapath.specs.Alu.{operate};
 ghost use Rattle.registers.specs.Registers.{out};
 ghost use Rattle.processing.specs.Processing.{operandOf, computedBy, flagsAfter, processed, readsAt};
 use crate::Taken;
-use crate::operand;
 use crate::store_result;
 use bits::field;
 use datapath::alu::carry_of;
@@ -16,6 +15,7 @@ use datapath::alu::makes_carry;
 use datapath::alu::result;
 use datapath::counter::ahead;
 use datapath::counter::r15_word;
+use datapath::shifter;
 use datapath::value::by_amount;
 use datapath::value::by_register;
 use datapath::value::constant;
@@ -47,12 +47,31 @@ pub fn taken(i: Processing, registers: &[u32; 15], flags: u32, a: u32) -> Taken
         }
         Operand::ShiftByRegister { rm, shift, rs } => {
             let pc = ahead(a, 12);
-            let r15 = r15_word(flags, pc);
-            let v = register(registers, rm, r15);
+            let r15_12 = r15_word(flags, pc);
+            let v = register(registers, rm, r15_12);
             Taken {
-                value: by_register(shift, v, register(registers, rs, r15)),
+                value: by_register(shift, v, register(registers, rs, r15_12)),
                 pc,
             }
+        }
+    }
+}
+
+// The carry of an instruction's operand.
+fn operand_carry(i: Processing, registers: &[u32; 15], flags: u32, pc: u32) -> bool
+    ensures { λ r. ⌜ r ≡ operandOf (i .operand) (now (registers .entry)) flags pc .carry ⌝ }
+{
+    let carry = carry_of(flags);
+    let r15 = r15_word(flags, pc);
+    let o = i.operand;
+    match o {
+        Operand::Constant { rotate, value } => shifter::constant(rotate, value, carry).carry,
+        Operand::ShiftByAmount { rm, shift, amount } => {
+            shifter::by_amount(shift, register(registers, rm, r15), amount, carry).carry
+        }
+        Operand::ShiftByRegister { rm, shift, rs } => {
+            let v = register(registers, rm, r15);
+            shifter::by_register(shift, v, register(registers, rs, r15), carry).carry
         }
     }
 }
@@ -64,8 +83,7 @@ fn shifter_carry(i: Processing, registers: &[u32; 15], flags: u32, pc: u32) -> b
     if makes_carry(i.operation) {
         return false;
     }
-    let o = i.operand;
-    operand(o, registers, flags, pc).carry
+    operand_carry(i, registers, flags, pc)
 }
 
 // The flags after an instruction with this result.

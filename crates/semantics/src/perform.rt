@@ -21,7 +21,6 @@ use crate::own_steps::SKIPPED_STEPS;
 use crate::own_steps::block_steps;
 use crate::own_steps::processing_steps;
 use crate::own_steps::single_steps;
-use bits::bit;
 use bits::field;
 use condition::passes;
 use datapath::counter::ahead;
@@ -276,7 +275,7 @@ fn perform_branch(i: Branch, registers: &mut [u32; 15], flags: u32, a: u32) -> P
     done(a, BRANCH_STEPS, branch(i, registers, flags, a))
 }
 
-// The class by bits 27..25, each class in one place, so that its reader and its road dissolve here.
+// By the kind of the word, each class in one place, so that its reader and its road dissolve here.
 fn execute(
     word: u32,
     registers: &mut [u32; 15],
@@ -287,46 +286,28 @@ fn execute(
 ) -> Performed
     ensures { λ r. ⌜ resultOf r (now (registers .exit)) (memoryOf board (now (memory .exit))) ≡ executed (readOf word) (state (now (registers .entry)) flags a (memoryOf board (now (memory .entry)))) ⌝ }
 {
-    if bit(word, 27) {
-        if bit(word, 26) {
-            stopped(OTHER_WORD, flags, a)
-        } else {
-            if bit(word, 25) {
-                perform_branch(reader::branch(word), registers, flags, a)
-            } else {
-                perform_block(reader::block(word), registers, memory, flags, a, board)
-            }
-        }
-    } else {
-        if bit(word, 26) {
-            if bit(word, 25) & bit(word, 4) {
-                stopped(OTHER_WORD, flags, a)
-            } else {
-                perform_single(
-                    reader::single(word, reader::single_offset(word)),
-                    registers,
-                    memory,
-                    flags,
-                    a,
-                    board,
-                )
-            }
-        } else {
-            if reader::is_extended(word) {
-                stopped(OTHER_WORD, flags, a)
-            } else {
-                perform_processing(
-                    reader::processing(word, reader::processing_operand(word)),
-                    registers,
-                    flags,
-                    a,
-                )
-            }
-        }
+    match reader::kind(word) {
+        0 => perform_processing(
+            reader::processing(word, reader::processing_operand(word)),
+            registers,
+            flags,
+            a,
+        ),
+        1 => perform_single(
+            reader::single(word, reader::single_offset(word)),
+            registers,
+            memory,
+            flags,
+            a,
+            board,
+        ),
+        2 => perform_block(reader::block(word), registers, memory, flags, a, board),
+        3 => perform_branch(reader::branch(word), registers, flags, a),
+        _ => stopped(OTHER_WORD, flags, a),
     }
 }
 
-pub fn perform(
+fn perform(
     word: u32,
     registers: &mut [u32; 15],
     memory: &mut [u8],

@@ -25,7 +25,6 @@ use transfer::named::lowest;
 use transfer::single;
 use word::Block;
 use word::Branch;
-use word::Instruction;
 use word::Processing;
 use word::Single;
 use word::reader;
@@ -105,11 +104,21 @@ fn first_branch(i: Branch, registers: &mut [u32; 15], flags: u32, pc: u32) -> St
 pub fn first_step(word: u32, registers: &mut [u32; 15], flags: u32, pc: u32) -> Step
     ensures { λ r. ⌜ ((mem : Memory) → own (now (registers .exit)) r mem ≡ firstStep (readOf word) (now (registers .entry)) flags pc mem) ⌝ }
 {
-    match reader::read(word) {
-        Instruction::Processing(i) => first_processing(i, registers, flags, pc),
-        Instruction::Single(i) => first_single(i, registers, flags, pc),
-        Instruction::Block(i) => first_block(i, registers, flags, pc),
-        Instruction::Branch(i) => first_branch(i, registers, flags, pc),
-        Instruction::Other(_) => still(flags, After::Done(Ended::Executed)),
+    match reader::kind(word) {
+        0 => first_processing(
+            reader::processing(word, reader::processing_operand(word)),
+            registers,
+            flags,
+            pc,
+        ),
+        1 => first_single(
+            reader::single(word, reader::single_offset(word)),
+            registers,
+            flags,
+            pc,
+        ),
+        2 => first_block(reader::block(word), registers, flags, pc),
+        3 => first_branch(reader::branch(word), registers, flags, pc),
+        _ => still(flags, After::Done(Ended::Executed)),
     }
 }

@@ -18,7 +18,6 @@ use memory::Board;
 use processing::process;
 use registers::arrive;
 use transfer::single;
-use word::Instruction;
 use word::Processing;
 use word::Single;
 use word::reader;
@@ -97,11 +96,33 @@ pub fn later_step(
 ) -> Step
     ensures { λ r. ⌜ own (now (registers .exit)) r (memoryOf board (now (memory .exit))) ≡ laterStep (readOf word) k (now (registers .entry)) flags pc l (memoryOf board (now (memory .entry))) ⌝ }
 {
-    match reader::read(word) {
-        Instruction::Processing(i) => later_processing(i, registers, flags, pc),
-        Instruction::Single(i) => later_single(i, k, registers, memory, flags, l, board),
-        Instruction::Block(i) => later_block(i, k, registers, memory, flags, pc, l, board),
-        Instruction::Branch(_) => still(flags, After::Done(Ended::Executed)),
-        Instruction::Other(_) => still(flags, After::Done(Ended::Executed)),
+    match reader::kind(word) {
+        0 => later_processing(
+            reader::processing(word, reader::processing_operand(word)),
+            registers,
+            flags,
+            pc,
+        ),
+        1 => later_single(
+            reader::single(word, reader::single_offset(word)),
+            k,
+            registers,
+            memory,
+            flags,
+            l,
+            board,
+        ),
+        2 => later_block(
+            reader::block(word),
+            k,
+            registers,
+            memory,
+            flags,
+            pc,
+            l,
+            board,
+        ),
+        3 => still(flags, After::Done(Ended::Executed)),
+        _ => still(flags, After::Done(Ended::Executed)),
     }
 }

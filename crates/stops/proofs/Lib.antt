@@ -3,4 +3,4 @@ pub mod Marked
 pub mod BrokenRules
 pub mod StopOrder
 pub mod Hidden
-pub mod SingleStops
+pub mod Joins

@@ -6,6 +6,7 @@ ghost use Rattle.datapath.specs.Counter.{ahead};
 ghost use Prim.Native.Nat.{ℕ};
 ghost use Rattle.bits.specs.Choice.{pick};
 ghost use Rattle.word.specs.declared.Instruction.{Instruction};
+ghost use Rattle.word.specs.Reader.{readOf};
 ghost use Rattle.memory.specs.Memory.{Memory, memoryOf};
 ghost use Rattle.registers.specs.State.{state};
 ghost use Rattle.stops.specs.Moves.{span};
@@ -29,10 +30,9 @@ use transfer::block::lowest_address;
 use transfer::named::count;
 use transfer::single::address;
 use word::Block;
-use word::Instruction;
 use word::Processing;
 use word::Single;
-use word::reader::read;
+use word::reader;
 
 // A word at A+4 or A+8 is among them.
 fn fetched_ahead(first: u32, n: u32, a: u32, board: Board) -> bool
@@ -97,16 +97,27 @@ pub fn block_stop(i: Block, registers: &[u32; 15], flags: u32, a: u32, board: Bo
     moved_stop(lowest_address(i, registers), count(i.list), i.l, a, board)
 }
 
-// An Other meets 22, and a branch meets none.
-fn instruction_stop(i: Instruction, registers: &[u32; 15], flags: u32, a: u32, board: Board) -> u32
-    ensures { λ r. ⌜ ((bytes : List ℕ) → r ≡ stopOf i (state (now (registers .entry)) flags a (memoryOf board bytes))) ⌝ }
+// Of a word whose condition passes, by its kind. An Other meets 22, and a branch meets none.
+fn word_stop(word: u32, registers: &[u32; 15], flags: u32, a: u32, board: Board) -> u32
+    ensures { λ r. ⌜ ((bytes : List ℕ) → r ≡ stopOf (readOf word) (state (now (registers .entry)) flags a (memoryOf board bytes))) ⌝ }
 {
-    match i {
-        Instruction::Processing(p) => processing_stop(p, registers, flags, a),
-        Instruction::Single(s) => single_stop(s, registers, flags, a, board),
-        Instruction::Block(b) => block_stop(b, registers, flags, a, board),
-        Instruction::Branch(_) => 0,
-        Instruction::Other(_) => OTHER_WORD,
+    match reader::kind(word) {
+        0 => processing_stop(
+            reader::processing(word, reader::processing_operand(word)),
+            registers,
+            flags,
+            a,
+        ),
+        1 => single_stop(
+            reader::single(word, reader::single_offset(word)),
+            registers,
+            flags,
+            a,
+            board,
+        ),
+        2 => block_stop(reader::block(word), registers, flags, a, board),
+        3 => 0,
+        _ => OTHER_WORD,
     }
 }
 
@@ -118,7 +129,7 @@ pub fn stop_for(x: Fetched, registers: &[u32; 15], flags: u32, a: u32, board: Bo
         return NO_WORD;
     };
     if passes(field(word, 28, 4), flags) {
-        instruction_stop(read(word), registers, flags, a, board)
+        word_stop(word, registers, flags, a, board)
     } else {
         0
     }

@@ -1,15 +1,18 @@
--- A word's record by its bits one by one, as an engine dispatches on them.
+-- A word's record by its kind, as an engine goes by it.
 -- Assumes nothing.
 use Prim.Native.Nat.{ℕ, _+_, _*_, _/_, _%_, _^_}
 use mathlib.Core.Path.{_≡_, refl, sym, ap, _∙_}
-use mathlib.Core.Bool.{Bool, true, false, not, _&&_}
+use mathlib.Core.Bool.{Bool, true, false}
+use mathlib.Core.Logic.{_≢_}
 use native.Mathlib.Omega.{arith}
+use lib.Dec.{eqb}
 use lib.Pow.{shr-shr}
+use borrow.Author.Tests.{ne-eqb}
 use Rattle.bits.specs.Choice.{pick}
 use Rattle.bits.specs.Bits.{field, bit, num}
 use Rattle.bits.proofs.Fields.{num-bit}
 use Rattle.word.specs.declared.Instruction.{Instruction}
-use Rattle.word.specs.Reader.{constantOf, byAmountOf, byRegisterOf, processingOperandOf, singleOffsetOf, processingOf, singleOf, blockOf, branchOf, extendedOf, classed, readOf}
+use Rattle.word.specs.Reader.{constantOf, byAmountOf, byRegisterOf, processingOperandOf, singleOffsetOf, processingOf, singleOf, blockOf, branchOf, classed, kindBy, kindIn, readOf}
 
 -- bits 27..25 as a number
 eight : (q : ℕ) → q % 8 ≡ 2 * (q / 2 % 4) + q % 2
@@ -30,52 +33,51 @@ class-fields w =
 class-bits : (w : ℕ) → field w 25 3 ≡ 4 * num (bit w 27) + (2 * num (bit w 26) + num (bit w 25))
 class-bits w = rw (num-bit w 27, num-bit w 26, num-bit w 25) (class-fields w)
 
--- the record, by bits 27, 26, 25, 4 and 7
-abbrev byBits : ℕ → Bool → Bool → Bool → Bool → Bool → Instruction
-byBits w b27 b26 b25 b4 b7 =
-    pick b27
-    (pick b26 (Instruction.Other w) (pick b25 (Instruction.Branch (branchOf w)) (Instruction.Block (blockOf w))))
-    (pick b26
-    (pick (b25 && b4) (Instruction.Other w) (Instruction.Single (singleOf w (pick b25 (byAmountOf w) (constantOf w)))))
-    (pick (not b25 && (b4 && b7)) (extendedOf w)
-    (Instruction.Processing (processingOf w (pick b25 (constantOf w) (pick b4 (byRegisterOf w) (byAmountOf w)))))))
+-- the record of a kind, with bits 25 and 4 for what its operand or offset is
+abbrev recordBy : ℕ → Bool → Bool → ℕ → Instruction
+recordBy w bit25 bit4 kind =
+    pick (eqb kind 0) (Instruction.Processing (processingOf w (pick bit25 (constantOf w) (pick bit4 (byRegisterOf w) (byAmountOf w)))))
+    (pick (eqb kind 1) (Instruction.Single (singleOf w (pick bit25 (byAmountOf w) (constantOf w))))
+    (pick (eqb kind 2) (Instruction.Block (blockOf w))
+    (pick (eqb kind 3) (Instruction.Branch (branchOf w))
+    (Instruction.Other w))))
 
-by-class : (w : ℕ) (b27 b26 b25 b4 b7 : Bool) → classed w (4 * num b27 + (2 * num b26 + num b25)) b4 b7 ≡ byBits w b27 b26 b25 b4 b7
+by-class : (w : ℕ) (b27 b26 b25 b4 b7 : Bool) → classed w (4 * num b27 + (2 * num b26 + num b25)) b4 b7 ≡ recordBy w b25 b4 (kindBy b27 b26 b25 b4 b7)
 by-class w true true true b4 b7 = refl
 by-class w true true false b4 b7 = refl
 by-class w true false true b4 b7 = refl
 by-class w true false false b4 b7 = refl
-by-class w false true true true b7 = refl
-by-class w false true true false b7 = refl
+by-class w false true true true true = refl
+by-class w false true true true false = refl
+by-class w false true true false true = refl
+by-class w false true true false false = refl
 by-class w false true false b4 b7 = refl
 by-class w false false true b4 b7 = refl
 by-class w false false false true true = refl
 by-class w false false false true false = refl
-by-class w false false false false b7 = refl
+by-class w false false false false true = refl
+by-class w false false false false false = refl
 
-by-bits : (w : ℕ) → readOf w ≡ byBits w (bit w 27) (bit w 26) (bit w 25) (bit w 4) (bit w 7)
+by-kind : (w : ℕ) → readOf w ≡ recordBy w (bit w 25) (bit w 4) (kindIn w)
 unfolding readOf
-by-bits w = ap (λ (n : ℕ). classed w n (bit w 4) (bit w 7)) (class-bits w) ∙ by-class w (bit w 27) (bit w 26) (bit w 25) (bit w 4) (bit w 7)
+by-kind w = rw (class-bits w) (by-class w (bit w 27) (bit w 26) (bit w 25) (bit w 4) _)
 
--- so what a word reads as, by the tests that an engine makes
-module _ (w : ℕ) where
-  pub reads-other : bit w 27 ≡ true → bit w 26 ≡ true → Instruction.Other w ≡ readOf w
-  reads-other h i = sym (by-bits w ∙ rw (h, i))
+-- so what a word of a kind reads as; the kind is a number that a call gave
+module _ (w : ℕ) {k : ℕ} (e : k ≡ kindIn w) where
+  is : (n : ℕ) → k ≡ n → readOf w ≡ recordBy w (bit w 25) (bit w 4) n
+  is n z = by-kind w ∙ ap (recordBy w (bit w 25) (bit w 4)) (sym e ∙ z)
 
-  pub reads-branch : bit w 27 ≡ true → bit w 26 ≡ false → bit w 25 ≡ true → Instruction.Branch (branchOf w) ≡ readOf w
-  reads-branch h i j = sym (by-bits w ∙ rw (h, i, j))
+  pub reads-processing : k ≡ 0 → Instruction.Processing (processingOf w (processingOperandOf w)) ≡ readOf w
+  reads-processing z = sym (is 0 z)
 
-  pub reads-block : bit w 27 ≡ true → bit w 26 ≡ false → bit w 25 ≡ false → Instruction.Block (blockOf w) ≡ readOf w
-  reads-block h i j = sym (by-bits w ∙ rw (h, i, j))
+  pub reads-single : k ≡ 1 → Instruction.Single (singleOf w (singleOffsetOf w)) ≡ readOf w
+  reads-single z = sym (is 1 z)
 
-  pub reads-no-single : bit w 27 ≡ false → bit w 26 ≡ true → (bit w 25 && bit w 4) ≡ true → Instruction.Other w ≡ readOf w
-  reads-no-single h i j = sym (by-bits w ∙ rw (h, i, j))
+  pub reads-block : k ≡ 2 → Instruction.Block (blockOf w) ≡ readOf w
+  reads-block z = sym (is 2 z)
 
-  pub reads-single : bit w 27 ≡ false → bit w 26 ≡ true → (bit w 25 && bit w 4) ≡ false → Instruction.Single (singleOf w (singleOffsetOf w)) ≡ readOf w
-  reads-single h i j = sym (by-bits w ∙ rw (h, i, j))
+  pub reads-branch : k ≡ 3 → Instruction.Branch (branchOf w) ≡ readOf w
+  reads-branch z = sym (is 3 z)
 
-  pub reads-extended : bit w 27 ≡ false → bit w 26 ≡ false → (not (bit w 25) && (bit w 4 && bit w 7)) ≡ true → extendedOf w ≡ readOf w
-  reads-extended h i j = sym (by-bits w ∙ rw (h, i, j))
-
-  pub reads-processing : bit w 27 ≡ false → bit w 26 ≡ false → (not (bit w 25) && (bit w 4 && bit w 7)) ≡ false → Instruction.Processing (processingOf w (processingOperandOf w)) ≡ readOf w
-  reads-processing h i j = sym (by-bits w ∙ rw (h, i, j))
+  pub reads-other : k ≢ 0 → k ≢ 1 → k ≢ 2 → k ≢ 3 → Instruction.Other w ≡ readOf w
+  reads-other a b c d = sym (by-kind w ∙ rw (sym e, ne-eqb k 0 a, ne-eqb k 1 b, ne-eqb k 2 c, ne-eqb k 3 d))

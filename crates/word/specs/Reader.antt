@@ -1,6 +1,6 @@
 -- How a word reads (paper 01, "Words and records").
 use Prim.Native.Nat.{ℕ}
-use mathlib.Core.Bool.{Bool, true, false}
+use mathlib.Core.Bool.{Bool, true, false, not, _&&_}
 use lib.Dec.{eqb}
 use Rattle.bits.specs.Choice.{pick}
 use Rattle.bits.specs.Bits.{field, bit}
@@ -89,6 +89,17 @@ classed w class bit4 bit7 =
 
 unfoldable pub readOf : ℕ → Instruction
 readOf w = classed w (field w 25 3) (bit w 4) (bit w 7)
+
+-- the class of a word as a number, which engines go by: 0 processing, 1 single, 2 block, 3 branch, 4 Other
+abbrev pub kindBy : Bool → Bool → Bool → Bool → Bool → ℕ
+kindBy bit27 bit26 bit25 bit4 bit7 =
+    pick bit27
+    (pick bit26 4 (pick bit25 3 2))
+    (pick bit26 (pick (bit25 && bit4) 4 1)
+    (pick (not bit25 && (bit4 && bit7)) 4 0))
+
+abbrev pub kindIn : ℕ → ℕ
+kindIn w = kindBy (bit w 27) (bit w 26) (bit w 25) (bit w 4) (bit w 7)
 
 abbrev pub isOther : Instruction → Bool
 isOther (Instruction.Processing i) = false

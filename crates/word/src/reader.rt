@@ -1,8 +1,6 @@
-// The reader. An engine that has dispatched on bits 27..25 calls the reader of the class alone.
+// The reader. An engine goes by the kind of a word and calls the reader of that class alone: a record of any class would go through memory.
 ghost use mathlib.Core.Path.{_≡_};
-ghost use mathlib.Core.Bool.{not, _&&_};
-ghost use Rattle.bits.specs.Bits.{field, bit};
-ghost use Rattle.word.specs.Reader.{constantOf, byAmountOf, byRegisterOf, processingOperandOf, singleOffsetOf, processingOf, singleOf, blockOf, branchOf, extendedOf, classed, readOf, isOther};
+ghost use Rattle.word.specs.Reader.{constantOf, byAmountOf, byRegisterOf, processingOperandOf, singleOffsetOf, processingOf, singleOf, blockOf, branchOf, kindBy, kindIn, readOf, isOther};
 use crate::Block;
 use crate::Branch;
 use crate::Instruction;
@@ -15,58 +13,37 @@ use bits::field;
 pub fn read(word: u32) -> Instruction
     ensures { λ r. ⌜ r ≡ readOf word ⌝ }
 {
-    classed(word, class(word), bit(word, 4), bit(word, 7))
-}
-
-// Bits 27..25.
-pub fn class(word: u32) -> u32
-    ensures { λ r. ⌜ r ≡ field word 25 3 ⌝ }
-{
-    field(word, 25, 3)
-}
-
-fn classed(word: u32, class: u32, bit4: bool, bit7: bool) -> Instruction
-    ensures { λ r. ⌜ r ≡ classed word class bit4 bit7 ⌝ }
-{
-    match class {
-        0 => {
-            if bit4 {
-                if bit7 {
-                    extended(word)
-                } else {
-                    Instruction::Processing(processing(word, by_register(word)))
-                }
-            } else {
-                Instruction::Processing(processing(word, by_amount(word)))
-            }
-        }
-        1 => Instruction::Processing(processing(word, constant(word))),
-        2 => Instruction::Single(single(word, constant(word))),
-        3 => {
-            if bit4 {
-                Instruction::Other(word)
-            } else {
-                Instruction::Single(single(word, by_amount(word)))
-            }
-        }
-        4 => Instruction::Block(block(word)),
-        5 => Instruction::Branch(branch(word)),
+    match kind(word) {
+        0 => Instruction::Processing(processing(word, processing_operand(word))),
+        1 => Instruction::Single(single(word, single_offset(word))),
+        2 => Instruction::Block(block(word)),
+        3 => Instruction::Branch(branch(word)),
         _ => Instruction::Other(word),
     }
 }
 
-// A word of the extension space: bits 27..25 = 000, bits 7 and 4 set. Multiply and swap stand there, and this core has neither.
-pub fn extended(word: u32) -> Instruction
-    ensures { λ r. ⌜ r ≡ extendedOf word ⌝ }
+// The class of a word as a number: 0 processing, 1 single, 2 block, 3 branch, else Other.
+pub fn kind(word: u32) -> u32
+    ensures { λ r. ⌜ r ≡ kindIn word ⌝ }
 {
-    Instruction::Other(word)
+    let bit4 = bit(word, 4);
+    let bit7 = bit(word, 7);
+    kind_by(bit(word, 27), bit(word, 26), bit(word, 25), bit4, bit7)
 }
 
-// Whether a word whose bits 27 and 26 are clear is of the extension space.
-pub fn is_extended(word: u32) -> bool
-    ensures { λ r. ⌜ r ≡ (not (bit word 25) && (bit word 4 && bit word 7)) ⌝ }
+// With bits 27..25 = 000 and bits 7 and 4 set a word is of the extension space, where multiply and swap stand: this core has neither.
+fn kind_by(bit27: bool, bit26: bool, bit25: bool, bit4: bool, bit7: bool) -> u32
+    ensures { λ r. ⌜ r ≡ kindBy bit27 bit26 bit25 bit4 bit7 ⌝ }
 {
-    !bit(word, 25) & (bit(word, 4) & bit(word, 7))
+    if bit27 {
+        if bit26 { 4 } else { if bit25 { 3 } else { 2 } }
+    } else {
+        if bit26 {
+            if bit25 & bit4 { 4 } else { 1 }
+        } else {
+            if !bit25 & (bit4 & bit7) { 4 } else { 0 }
+        }
+    }
 }
 
 pub fn constant(word: u32) -> Operand
@@ -103,13 +80,12 @@ pub fn processing_operand(word: u32) -> Operand
     ensures { λ r. ⌜ r ≡ processingOperandOf word ⌝ }
 {
     if bit(word, 25) {
-        constant(word)
+        return constant(word);
+    }
+    if bit(word, 4) {
+        by_register(word)
     } else {
-        if bit(word, 4) {
-            by_register(word)
-        } else {
-            by_amount(word)
-        }
+        by_amount(word)
     }
 }
 

@@ -1,5 +1,5 @@
 use mathlib.Core.Path.{_∙_}
-use Rattle.stops.proofs.SingleStops.{single-stop}
+use Rattle.stops.proofs.Joins.{single-stop}
 use Rattle.semantics.proofs.Results.{executed-stop, executed-done, single-load, single-store}
 use borrow.Author.Needs.{needs}
 use Rattle.semantics.proofs.perform.perform_single.Statement.{statement}

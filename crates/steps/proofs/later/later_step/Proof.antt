@@ -1,4 +1,7 @@
-use mathlib.Core.Path.{sym, _∙_}
+use mathlib.Core.Path.{_≡_}
+use Rattle.word.specs.declared.Instruction.{Instruction}
+use Rattle.word.specs.Reader.{readOf}
+use Rattle.word.proofs.Dispatch.{reads-processing, reads-single, reads-block, reads-branch, reads-other}
 use Rattle.steps.specs.Steps.{laterStep}
 use Rattle.steps.proofs.OwnSteps.{with-step, later-read}
 use borrow.Author.Needs.{needs}
@@ -7,21 +10,26 @@ use Rattle.steps.proofs.later.later_step.Tie as tie
 
 returns : tie.Need-returns
 unfolding laterStep
-returns c = later-read _ _ _ _ _ _ (sym (c .before .before .before .i .given .1) ∙ c .before .before .before .before .before .read .ensures) (c .later-processing .ensures _)
+returns c =
+    let e : Instruction.Processing (c .before .before .processing .result) ≡ readOf (c .before .before .before .before .before .before .before .args .word) =
+    rw (c .before .before .processing .ensures, c .before .before .before .processing-operand .ensures) (reads-processing _ (c .before .before .before .before .before .kind .ensures) (c .before .before .before .before .match .keys1)) in
+    later-read _ _ _ _ _ _ e (c .later-processing .ensures _)
 
 returns-2 : tie.Need-returns-2
-returns-2 c = later-read _ _ _ _ _ _ (sym (c .before .before .before .before .before .before .i2 .given .1) ∙ c .before .before .before .before .before .before .before .before .read .ensures) (c .before .before .later-single .ensures _)
+returns-2 c = later-read _ _ _ _ _ _ (rw (c .before .before .before .before .before .single .ensures, c .before .before .before .before .before .before .single-offset .ensures) (reads-single _ (c .before .before .before .before .before .before .before .before .kind .ensures) (c .before .before .before .before .before .before .before .match .keys2))) (c .before .before .later-single .ensures _)
 
 returns-3 : tie.Need-returns-3
-returns-3 c = later-read _ _ _ _ _ _ (sym (c .before .before .before .before .before .before .i3 .given .1) ∙ c .before .before .before .before .before .before .before .before .read .ensures) (c .before .before .later-block .ensures)
+returns-3 c = later-read _ _ _ _ _ _ (rw (c .before .before .before .before .before .block .ensures) (reads-block _ (c .before .before .before .before .before .before .before .kind .ensures) (c .before .before .before .before .before .before .match .keys3))) (c .before .before .later-block .ensures)
 
 returns-4 : tie.Need-returns-4
 unfolding laterStep
-returns-4 c = later-read _ _ _ _ _ _ (sym (c .before .enum-told .given .1) ∙ c .before .before .before .read .ensures) (with-step _ _ (c .still .ensures))
+returns-4 c = later-read _ _ _ _ _ _ (reads-branch _ (c .before .before .kind .ensures) (c .before .match .keys4)) (with-step _ _ (c .still .ensures))
 
 returns-5 : tie.Need-returns-5
 unfolding laterStep
-returns-5 c = later-read _ _ _ _ _ _ (sym (c .before .enum-told2 .given .1) ∙ c .before .before .before .read .ensures) (with-step _ _ (c .still2 .ensures))
+returns-5 c =
+    let ((((_, n0), n1), n2), n3) = c .before .match .rest in
+    later-read _ _ _ _ _ _ (reads-other _ (c .before .before .kind .ensures) n0 n1 n2 n3) (with-step _ _ (c .still2 .ensures))
 
 pub later-step-spec : {M : Type 1} → statement M
-later-step-spec = tie.close (tie.spec (λ c κs. search needs) (λ c. search needs) (λ c κs. search needs) (λ c. search needs) (λ c κs. search needs) (λ c. search needs) (λ c κs. search needs) (λ c. search needs) (λ c κs. search needs) (λ c. search needs) (λ c κs. search needs) returns (λ c. search needs) returns-2 (λ c. search needs) returns-3 returns-4 returns-5)
+later-step-spec = tie.close (tie.spec (λ c κs. search needs) (λ c κs. search needs) (λ c κs. search needs) (λ c κs. search needs) (λ c κs. search needs) (λ c κs. search needs) (λ c κs. search needs) (λ c κs. search needs) (λ c κs. search needs) (λ c κs. search needs) (λ c κs. search needs) returns (λ c. search needs) returns-2 (λ c. search needs) returns-3 returns-4 returns-5)

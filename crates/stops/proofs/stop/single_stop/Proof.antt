@@ -1,4 +1,4 @@
-use Rattle.stops.proofs.SingleStops.{single-stop}
+use Rattle.stops.proofs.Joins.{single-stop}
 use borrow.Author.Needs.{needs}
 use Rattle.stops.proofs.stop.single_stop.Statement.{statement}
 use Rattle.stops.proofs.stop.single_stop.Tie as tie

@@ -11,8 +11,8 @@ returns c bytes = simp (c .enum-told .given .1, c .before .match .keys2)
 returns-2 : tie.Need-returns-2
 unfolding stopFor due
 returns-2 c bytes =
-    let passing = rw (c .before .before .before .before .field .ensures) at (sym (c .before .before .before .passes .ensures) ∙ c .before .before .if1 .taken) in
-    rw (c .before .before .before .before .before .before .x .given .1, passing) (rw (c .before .read .ensures) at (c .instruction-stop .ensures bytes))
+    let passing = rw (c .before .before .before .field .ensures) at (sym (c .before .before .passes .ensures) ∙ c .before .if1 .taken) in
+    rw (c .before .before .before .before .before .x .given .1, passing) (c .word-stop .ensures bytes)
 
 returns-3 : tie.Need-returns-3
 unfolding stopFor due
@@ -22,4 +22,4 @@ returns-3 c bytes =
 
 pub stop-for-spec : {M : Type 1} → statement M
 stop-for-spec =
-    tie.close (tie.spec (λ c. search needs) (λ c. search needs) returns (λ c κs. search needs) (λ c κs. search needs) (λ c κs. search needs) (λ c κs. search needs) returns-2 returns-3)
+    tie.close (tie.spec (λ c. search needs) (λ c. search needs) returns (λ c κs. search needs) (λ c κs. search needs) (λ c κs. search needs) returns-2 returns-3)

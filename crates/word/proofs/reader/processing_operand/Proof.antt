@@ -14,4 +14,4 @@ returns-3 c = simp (c .by-amount .ensures, sym (c .before .before .bit2 .ensures
 
 pub processing-operand-spec : {M : Type 1} → statement M
 processing-operand-spec =
-    tie.close (tie.spec (λ c κs. search needs) (λ c κs. search needs) (λ c κs. search needs) (λ c κs. search needs) (λ c κs. search needs) returns returns-2 returns-3)
+    tie.close (tie.spec (λ c κs. search needs) (λ c κs. search needs) returns (λ c κs. search needs) (λ c κs. search needs) (λ c κs. search needs) returns-2 returns-3)
