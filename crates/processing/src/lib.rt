@@ -30,7 +30,7 @@ pub struct Taken {
 }
 
 // The operand and the shifter's carry, with what R15 reads as in `pc`.
-pub fn operand(o: Operand, registers: &[u32; 15], flags: u32, pc: u32) -> Shifted
+fn operand(o: Operand, registers: &[u32; 15], flags: u32, pc: u32) -> Shifted
     ensures { λ r. ⌜ r ≡ operandOf o (now (registers .entry)) flags pc ⌝ }
 {
     let carry = carry_of(flags);

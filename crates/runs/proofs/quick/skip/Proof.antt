@@ -8,7 +8,7 @@ add-cycles : tie.Need-add-t16
 add-cycles c = record { fits = omega (arith, came-within _ (c .before .before .before .before .wholes .ensures) .1, c .before .before .before .before .before .before .before .before .before .before .before .before .before .pre .0) }
 
 add-retired : tie.Need-add-t17
-add-retired c = record { fits = omega (arith, came-within _ (c .before .before .before .before .before .before .wholes .ensures) .0, c .before .before .before .before .before .before .before .before .before .before .before .before .before .before .before .pre .0, c .before .before .before .before .before .before .before .before .before .before .before .before .before .before .before .pre .1) }
+add-retired c = record { fits = omega (arith, came-within _ (c .before .before .before .before .before .before .wholes .ensures) .0, came-within _ (c .before .before .before .before .before .before .wholes .ensures) .1, c .before .before .before .before .before .before .before .before .before .before .before .before .before .before .before .pre .0, c .before .before .before .before .before .before .before .before .before .before .before .before .before .before .before .pre .1) }
 
 returns : tie.Need-returns
 returns c =
