@@ -7,6 +7,7 @@ pub type PlainArray = [u32; 19];
 pub type RecordArray = [u32; 16];
 
 extern "C" {
+    fn slot_abi_1() -> c_uint;
     fn slot_core_start(
         core: *mut u32,
         registers: *const u32,
@@ -40,6 +41,10 @@ extern "C" {
     fn slot_word_read(word: c_uint, record: *mut u32);
     fn slot_word_write(record: *const u32, word: *mut u32) -> c_uint;
 }
+
+/// Refers to the number of the layouts, so that an archive of another one does not link.
+#[used]
+static ABI: unsafe extern "C" fn() -> c_uint = slot_abi_1;
 
 /// What results are filled with before a call, so that one left unwritten shows.
 const STALE: u32 = 0xA5A5_A5A5;

@@ -1,11 +1,73 @@
 //! Reader and writer, word by word.
 
 use crate::archive::{word_read, word_write, RecordArray};
+use crate::comparison::{Comparison, Place};
 use crate::records::{record_array, word_of, RECORD_NAMES};
 use interpreter::random::Random;
 
+/// The strided sample takes every word of this distance; it is odd.
+const STRIDE: u32 = 61;
+const INTERESTING: u32 = 1 << 20;
+const TAMPERED_RECORDS: u32 = 2_000_000;
+const CLASSES: u32 = 8;
+
+pub fn all(comparison: &mut Comparison, seed: u64) {
+    let mut random = Random::new(seed);
+    let first = random.below(STRIDE);
+    let strided = (u32::MAX - first) / STRIDE + 1;
+    let total = strided + INTERESTING + TAMPERED_RECORDS + CLASSES;
+    comparison.begin("words and their records", total.into(), "words and records");
+    let place = Place::Within("strided words".to_string());
+    for index in 0..strided {
+        one_word(comparison, &place, first + index * STRIDE);
+    }
+    let place = Place::Within("interesting words".to_string());
+    for index in 0..INTERESTING {
+        one_word(comparison, &place, interesting(index, &mut random));
+    }
+    let place = Place::Within("tampered records of words".to_string());
+    for _ in 0..TAMPERED_RECORDS {
+        one_record(comparison, &place, &tampered(&mut random));
+    }
+    let place = Place::Within("empty records of words".to_string());
+    for class in 0..CLASSES {
+        // All zeros but for the class.
+        let mut record = [0; 16];
+        record[0] = class;
+        one_record(comparison, &place, &record);
+    }
+}
+
+fn one_word(comparison: &mut Comparison, place: &Place, word: u32) {
+    comparison.counts.words.words += 1;
+    match check_word(word) {
+        Ok(()) => comparison.counts.words.written += 1,
+        Err(text) => comparison.differs(place, &text),
+    }
+    tell(comparison);
+}
+
+fn one_record(comparison: &mut Comparison, place: &Place, record: &RecordArray) {
+    comparison.counts.words.records += 1;
+    match check_record(record) {
+        Ok(true) => comparison.counts.words.written += 1,
+        Ok(false) => comparison.counts.words.refused += 1,
+        Err(text) => comparison.differs(place, &text),
+    }
+    tell(comparison);
+}
+
+/// Now and then only: a look at the clock takes about as long as a word.
+fn tell(comparison: &mut Comparison) {
+    let words = &comparison.counts.words;
+    let done = words.words + words.records;
+    if done & 0xFFFF == 0 {
+        comparison.reached(done);
+    }
+}
+
 /// Reads a word, holds its record to the interpreter's decoder and writes it back.
-pub fn check_word(word: u32) -> Result<(), String> {
+fn check_word(word: u32) -> Result<(), String> {
     let read = word_read(word);
     let wanted = record_array(word);
     if read != wanted {
@@ -19,8 +81,8 @@ pub fn check_word(word: u32) -> Result<(), String> {
     }
 }
 
-/// Writes a record: the word that it is the record of, or 5 and 0.
-pub fn check_record(record: &RecordArray) -> Result<bool, String> {
+/// Writes a record: the word that it is the record of, or 5 and 0. Whether it has a word.
+fn check_record(record: &RecordArray) -> Result<bool, String> {
     let wanted = word_of(record).map_or((5, 0), |word| (0, word));
     let written = word_write(record);
     if written == wanted {
@@ -46,7 +108,7 @@ fn two(product: &RecordArray, wanted: &RecordArray) -> String {
 
 /// One of 2^20 interesting words: every value of bits 31..20 and 7..4, each with sixteen fillings
 /// of the others, the first four of them all zeros, all ones and alternating.
-pub fn interesting(index: u32, random: &mut Random) -> u32 {
+fn interesting(index: u32, random: &mut Random) -> u32 {
     const OTHERS: u32 = 0x000F_FF0F;
     let fixed = index >> 8 << 20 | (index >> 4 & 15) << 4;
     let filling = match index & 15 {
@@ -60,7 +122,7 @@ pub fn interesting(index: u32, random: &mut Random) -> u32 {
 }
 
 /// The record of a random word with some fields set to other values, most of them small.
-pub fn tampered(random: &mut Random) -> RecordArray {
+fn tampered(random: &mut Random) -> RecordArray {
     let mut record = record_array(random.word());
     for _ in 0..=random.below(3) {
         let field = random.below(16) as usize;

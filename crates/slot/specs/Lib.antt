@@ -1,3 +1,4 @@
+pub mod Abi
 pub mod Calls
 pub mod Refusals
 pub mod Lists
