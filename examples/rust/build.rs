@@ -1,4 +1,4 @@
-// Links the archive that `rt staticlib slot` writes, or the one that SLOT_ARCHIVE names.
+// Links the archive that scripts/archive has written, or the one that SLOT_ARCHIVE names.
 use std::{env, path::PathBuf, process};
 
 fn main() {
@@ -8,7 +8,7 @@ fn main() {
         None => PathBuf::from("../../target/staticlib/libslot.a"),
     };
     let Ok(archive) = archive.canonicalize() else {
-        println!("cargo:warning=there is no {}: run `rt staticlib slot` first", archive.display());
+        println!("cargo:warning=there is no {}: run scripts/archive first", archive.display());
         process::exit(1);
     };
     println!("cargo:rerun-if-changed={}", archive.display());
