@@ -1,7 +1,10 @@
 """The header: its names and calls against the source, what it says against the archive, and its number against another archive."""
+import re
 import shutil
 
 from harness import ARCHIVE, TOP, run
+
+ABI = int(re.search(r"^#define SLOT_ABI ([0-9]+)$", (TOP / "include/slot_core.h").read_text(), re.MULTILINE)[1])
 
 # What compare/header reads.
 READ = ["include", "examples/rust/src", "compare/driver/src", "compare/header", "compare/abi.txt", "crates", "VERSION", "CHANGES.md"]
@@ -19,14 +22,14 @@ WRONG = [
     ("an operation, which only the kept layout has", "include/slot_core.h", "SLOT_OPERATION_BIC = 14", "SLOT_OPERATION_BIC = 13"),
     ("a parameter less", "include/slot_core.h", "size_t length, uint64_t budget, uint64_t *used", "uint64_t budget, uint64_t *used"),
     ("a narrower parameter", "include/slot_core.h", "uint64_t count, uint64_t *used", "uint32_t count, uint64_t *used"),
-    ("a result that is not const", "include/slot_core.h", "slot_word_write(const uint32_t *record", "slot_word_write(uint32_t *record"),
+    ("a parameter that is not const", "include/slot_core.h", "slot_word_write(const uint32_t *record", "slot_word_write(uint32_t *record"),
     ("a call gone", "include/slot_core.h", "void slot_word_read(uint32_t word, uint32_t *record);", ""),
-    ("SLOT_ABI alone", "include/slot_core.h", "#define SLOT_ABI 1", "#define SLOT_ABI 2"),
+    ("SLOT_ABI alone", "include/slot_core.h", f"#define SLOT_ABI {ABI}\n", f"#define SLOT_ABI {ABI + 1}\n"),
     ("the version", "include/slot_core.h", '#define SLOT_VERSION "', '#define SLOT_VERSION "1'),
     ("a place of the layout", "crates/core_arrays/specs/Places.antt", "corePlace core-stop = 31", "corePlace core-stop = 30"),
     ("a parameter of the source", "crates/slot/src/core_calls.rt", "    budget: u64,", "    budget: u32,"),
-    ("a call more in the source", "crates/slot/src/abi.rt", "fn slot_abi_1()", "fn slot_abi_2()"),
-    ("the source's number", "crates/slot/specs/Abi.antt", "abi = 1", "abi = 2"),
+    ("a call more in the source", "crates/slot/src/abi.rt", f"fn slot_abi_{ABI}()", f"fn slot_abi_{ABI + 1}()"),
+    ("the source's number", "crates/slot/specs/Abi.antt", f"abi = {ABI}\n", f"abi = {ABI + 1}\n"),
     ("a stop more in the source", "crates/stops/specs/Numbers.antt", "noWord = 21", "noWord = 21\nanother = 26"),
     ("a place of the Rust example", "examples/rust/src/slot.rs", "CORE_IX: usize = 21", "CORE_IX: usize = 20"),
     ("a parameter of the Rust example", "examples/rust/src/slot.rs", "budget: u64", "budget: u32"),
@@ -73,16 +76,16 @@ def check_abi(checks, folder):
     other = folder / "other"
     other.mkdir()
     text = (TOP / "include/slot_core.h").read_text()
-    (other / "slot_core.h").write_text(text.replace("#define SLOT_ABI 1", "#define SLOT_ABI 2").replace("slot_abi_1", "slot_abi_2"))
+    (other / "slot_core.h").write_text(text.replace(f"#define SLOT_ABI {ABI}\n", f"#define SLOT_ABI {ABI + 1}\n").replace(f"slot_abi_{ABI}", f"slot_abi_{ABI + 1}"))
     source = folder / "start.c"
     source.write_text('#include "slot_core.h"\nint main(void) { uint32_t core[SLOT_CORE_WORDS], r[15] = {0}; uint8_t m[16] = {0};\n'
                       "    return (int)slot_core_start(core, r, 0, 0, m, 16); }\n")
     for name, options in [("", []), (", sections dropped", ["-O2", "-ffunction-sections", "-fdata-sections", "-Wl,--gc-sections"]), (", linked as a whole", ["-O2", "-flto"])]:
         for include, links in [(TOP / "include", True), (other, False)]:
             ended = run(["gcc", "-std=c11", *options, "-I", include, source, ARCHIVE, "-o", folder / "start"])
-            told = "slot_abi_2" in ended.stderr
+            told = f"slot_abi_{ABI + 1}" in ended.stderr
             holds = ended.returncode == 0 if links else ended.returncode != 0 and told
-            checks.check(f"{'the header links' if links else 'a header of SLOT_ABI 2 does not link'}{name}", holds, ended.stderr)
+            checks.check(f"{'the header links' if links else 'a header of the next SLOT_ABI does not link'}{name}", holds, ended.stderr)
 
 
 def check(checks, folder):
