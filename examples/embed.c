@@ -110,6 +110,13 @@ static int number(const char *text, const char *end, int base, uint64_t most, ui
     return 1;
 }
 
+static int window(const char *text, uint64_t *from, uint64_t *to)
+{
+    const char *dash = strchr(text, '-');
+    return dash != NULL && number(text, dash, 16, MOST, from) && number(dash + 1, text + strlen(text), 16, MOST, to) &&
+           *from % 4 == 0 && *to % 4 == 0 && *from < *to;
+}
+
 /* The bytes that the coming cycle stores, 0, 1 or 4, and where: the header's way. */
 static uint32_t coming_store(const uint32_t *core, uint32_t *address)
 {
@@ -170,6 +177,16 @@ static void watch(uint32_t *core, size_t length, uint64_t from, uint64_t to, uin
            cycles, (uint64_t)core[SLOT_CORE_RETIRED_HIGH] << 32 | core[SLOT_CORE_RETIRED], from, to, stores);
 }
 
+/* The status of a program that has printed all it has to say. */
+static int printed(void)
+{
+    if (fflush(stdout) != 0 || ferror(stdout)) {
+        complain("the output could not be written");
+        return 2;
+    }
+    return 0;
+}
+
 int main(int argc, char **argv)
 {
     const uint32_t registers[15] = {0};
@@ -179,20 +196,16 @@ int main(int argc, char **argv)
     signal(SIGPIPE, SIG_IGN); /* a closed pipe is a failed write like any other */
     if (argc == 2 && (strcmp(argv[1], "--help") == 0 || strcmp(argv[1], "-h") == 0)) {
         fputs(usage, stdout);
-        return 0;
+        return printed();
     }
     if (argc == 2 || argc > 4) {
         complain(argc == 2 ? "an image needs a window" : "too many arguments");
         fputs(usage, stderr);
         return 2;
     }
-    if (argc > 2) {
-        const char *dash = strchr(argv[2], '-'), *end = argv[2] + strlen(argv[2]);
-        if (dash == NULL || !number(argv[2], dash, 16, MOST, &from) || !number(dash + 1, end, 16, MOST, &to) || from % 4 != 0 ||
-            to % 4 != 0 || from >= to) {
-            complain("'%s' is no window FROM-TO: hexadecimal multiples of 4, FROM below TO, up to 10000", argv[2]);
-            return 2;
-        }
+    if (argc > 2 && !window(argv[2], &from, &to)) {
+        complain("'%s' is no window FROM-TO: hexadecimal multiples of 4, FROM below TO, up to 10000", argv[2]);
+        return 2;
     }
     if (argc > 3 && !number(argv[3], argv[3] + strlen(argv[3]), 10, MOST_CYCLES, &most)) {
         complain("'%s' is no number of cycles up to 1099511627776", argv[3]);
@@ -216,9 +229,5 @@ int main(int argc, char **argv)
         return 2;
     }
     watch(core, (size_t)length, from, to, most);
-    if (fflush(stdout) != 0 || ferror(stdout)) {
-        complain("the output could not be written");
-        return 2;
-    }
-    return 0;
+    return printed();
 }

@@ -98,9 +98,10 @@ def check_uses(checks, name, program, folder):
         ended = run([program, *words])
         holds = ended.returncode == status and ended.stdout == output and told in ended.stderr and bool(ended.stderr) == bool(told)
         checks.check(f"{name}: {use}", holds, f"status {ended.returncode}\n{ended.stdout}{ended.stderr}")
-    with open("/dev/full", "w") as full:
-        ended = run([program], stdout=full)
-    checks.check(f"{name}: a full disk", ended.returncode == 2 and "could not be written" in ended.stderr, ended.stderr)
+    for words in ([], ["--help"]):
+        with open("/dev/full", "w") as full:
+            ended = run([program, *words], stdout=full)
+        checks.check(f"{name}: {' '.join(words) or 'the sample'} on a full disk", ended.returncode == 2 and "could not be written" in ended.stderr, ended.stderr)
     ended = run([program, "--help"])
     checks.check(f"{name}: --help", ended.returncode == 0 and ended.stdout.startswith("usage: embed"), ended.stdout + ended.stderr)
 
