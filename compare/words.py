@@ -4,8 +4,8 @@
     words.py stdin     the words, one a line
     words.py stdout    the line expected for each
 
-Each class is one row of 32 characters, bit 31 first, after paper 01, "Words and records": 0 and 1 are fixed, a letter
-is a bit of its field. What no row fits is Other.
+Each class is one row of 32 characters, bit 31 first, after paper 01, "Words and records", and 02 §1: 0 and 1 are fixed,
+a letter is a bit of its field. What no row fits is Other.
 """
 import sys
 
@@ -13,6 +13,7 @@ PROCESSING = "c:condition o:operation s:s n:rn d:rd"
 SINGLE = "c:condition p:p u:u b:b w:w l:l n:rn d:rd"
 BLOCK = "c:condition p:p u:u s:s w:w l:l n:rn i:list"
 BRANCH = "c:condition k:link f:offset"
+MULTIPLY = "c:condition s:s a:accumulate n:rn d:rd m:rm x:rs"
 CONSTANT = "constant r:rotate v:value"
 AMOUNT = "amount m:rm t:shift a:amount"
 REGISTER = "register m:rm t:shift x:rs"
@@ -25,6 +26,7 @@ ROWS = [
     ("cccc011pubwlnnnnddddaaaaatt0mmmm", "single", SINGLE, AMOUNT),
     ("cccc100puswlnnnniiiiiiiiiiiiiiii", "block", BLOCK, ""),
     ("cccc101kffffffffffffffffffffffff", "branch", BRANCH, ""),
+    ("cccc000000asddddnnnnxxxx1001mmmm", "multiply", MULTIPLY, ""),
 ]
 
 
@@ -55,7 +57,7 @@ def expected(word):
 
 def conditions():
     for condition in range(16):
-        for rest in (0x3A00005, 0x5910004, 0x8BD8003, 0xAFFFFFE, 0xF000011):
+        for rest in (0x3A00005, 0x5910004, 0x8BD8003, 0xAFFFFFE, 0x0234291, 0xF000011):
             yield condition << 28 | rest
 
 
@@ -74,9 +76,27 @@ def processing():
             yield 0xE1A0F01E | rs << 8 | shift << 5
 
 
-def not_processing():
-    # bits 7 and 4 without I: MUL, MLA, SWP, SWPB and what later machines have there
+def multiplies():
     yield from (0xE0000291, 0xE0100291, 0xE0203291, 0xE0303291, 0x00000090, 0xF0000090)
+    for bits in range(4):  # accumulate, S
+        yield 0xE0012394 | bits << 20
+        for low in (16, 12, 8, 0):  # each field at its ends, and shared with the others
+            for register in (0, 1, 15):
+                yield 0xE0055595 & ~(15 << low) | bits << 20 | register << low
+        yield 0xE00FFF9F | bits << 20
+    # one of the bits changed that make it one; then the rest of its space
+    for low in (4, 5, 6, 7, 22, 23, 24, 25, 26, 27):
+        yield 0xE0012394 ^ 1 << low
+        yield 0xE03CDE9A ^ 1 << low
+    for kind in (0xB0, 0xD0, 0xF0):
+        for bits in range(0, 32, 7):
+            yield 0xE0012304 | bits << 20 | kind
+    for bits in range(4, 32):
+        yield 0xE0012394 | bits << 20
+
+
+def not_processing():
+    # bits 7 and 4 without I: SWP, SWPB and what later machines have there
     yield from (0xE1020091, 0xE1420091, 0xE1D100B2, 0xE1C100B2, 0xE1D100D2, 0xE1D100F2, 0xE0810392)
     for operation in range(16):
         yield 0xE0000F9F | operation << 21
@@ -137,7 +157,7 @@ def scattered(n):
 
 
 def words():
-    parts = (conditions(), processing(), not_processing(), singles(), blocks(), branches(), others(), corners(), scattered(40))
+    parts = (conditions(), processing(), multiplies(), not_processing(), singles(), blocks(), branches(), others(), corners(), scattered(40))
     return list(dict.fromkeys(word for part in parts for word in part))
 
 

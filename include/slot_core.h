@@ -29,7 +29,7 @@ extern "C" {
  * changes. Each file that includes this header refers to slot_abi_1, which only an archive of that number has, so a
  * program built with this header and another archive does not link: "undefined reference to `slot_abi_1'". A language
  * without this header refers to slot_abi_1 itself, or looks it up before its first call. It answers the number. */
-#define SLOT_VERSION "0.5.0"
+#define SLOT_VERSION "0.6.0"
 #define SLOT_ABI 1
 uint32_t slot_abi_1(void);
 
@@ -148,17 +148,18 @@ enum {
     SLOT_RECORD_OPERATION = 2,  /* processing: SLOT_OPERATION_.. */
     SLOT_RECORD_P = 3,          /* single, block: 1 where the offset is added before the transfer; so are U, W and L */
     SLOT_RECORD_U = 4,          /* 1 up, 0 down */
-    SLOT_RECORD_B = 5,          /* single: B, 1 for a byte; processing and block: S */
+    SLOT_RECORD_B = 5,          /* single: B, 1 for a byte; processing, block and multiply: S */
     SLOT_RECORD_S = 5,
-    SLOT_RECORD_W = 6,          /* 1 where the base is written back */
+    SLOT_RECORD_W = 6,          /* single, block: W, 1 where the base is written back; multiply: 1 where Rn is added (MLA) */
+    SLOT_RECORD_ACCUMULATE = 6,
     SLOT_RECORD_L = 7,          /* single, block: L, 1 for a load, 0 for a store; branch: link */
     SLOT_RECORD_LINK = 7,
-    SLOT_RECORD_RN = 8,         /* processing, single, block */
-    SLOT_RECORD_RD = 9,         /* processing, single */
+    SLOT_RECORD_RN = 8,         /* processing, single, block, multiply (of a MUL too, which has no use for it) */
+    SLOT_RECORD_RD = 9,         /* processing, single, multiply */
     SLOT_RECORD_KIND = 10,      /* the operand, or a single transfer's offset: SLOT_KIND_.., and its fields below */
     SLOT_RECORD_ROTATE = 11,    /* constant: VALUE rotated right by 2 x ROTATE. A single's 12-bit offset is not rotated: */
     SLOT_RECORD_VALUE = 12,     /* it is 256 x ROTATE + VALUE */
-    SLOT_RECORD_RM = 11,        /* shifted register: Rm, SLOT_SHIFT_.., then the amount or Rs */
+    SLOT_RECORD_RM = 11,        /* shifted register: Rm, SLOT_SHIFT_.., then the amount or Rs; multiply: Rm and Rs, KIND is 0 */
     SLOT_RECORD_SHIFT = 12,
     SLOT_RECORD_AMOUNT = 13,
     SLOT_RECORD_RS = 13,
@@ -167,7 +168,14 @@ enum {
     SLOT_RECORD_WORD = 14,
     SLOT_RECORD_WORDS = 16      /* word 15 is 0 */
 };
-enum { SLOT_CLASS_PROCESSING = 0, SLOT_CLASS_SINGLE = 1, SLOT_CLASS_BLOCK = 2, SLOT_CLASS_BRANCH = 3, SLOT_CLASS_OTHER = 4 };
+enum {
+    SLOT_CLASS_PROCESSING = 0,
+    SLOT_CLASS_SINGLE = 1,
+    SLOT_CLASS_BLOCK = 2,
+    SLOT_CLASS_BRANCH = 3,
+    SLOT_CLASS_OTHER = 4,
+    SLOT_CLASS_MULTIPLY = 5     /* MUL and MLA; before 0.6.0 these words were SLOT_CLASS_OTHER */
+};
 enum { SLOT_KIND_CONSTANT = 0, SLOT_KIND_BY_AMOUNT = 1, SLOT_KIND_BY_REGISTER = 2 };
 enum { SLOT_SHIFT_LSL = 0, SLOT_SHIFT_LSR = 1, SLOT_SHIFT_ASR = 2, SLOT_SHIFT_ROR = 3 };
 enum {

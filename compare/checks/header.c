@@ -121,7 +121,7 @@ static void answers(void)
     uint64_t used;
     uint32_t record[SLOT_RECORD_WORDS] = {0}, word = 7, kept[SLOT_CORE_WORDS];
     stop_of(0xEF000000, SLOT_STOP_OTHER, "22 is a SWI");
-    stop_of(0xE0000091, SLOT_STOP_OTHER, "22 is an instruction that this core has not");
+    stop_of(0xE1000091, SLOT_STOP_OTHER, "22 is an instruction that this core has not");
     stop_of(0xE8800000, SLOT_STOP_FORBIDDEN, "23 is a block of no registers");
     stop_of(0xE5901F00, SLOT_STOP_OUTSIDE, "24 is a load outside memory");
     stop_of(0xE5800004, SLOT_STOP_FETCHED, "25 is a store to A+4");
@@ -291,6 +291,37 @@ static void conditions(void)
     }
 }
 
+/* MUL and MLA R3, R1, R2, R5, by the names of a multiply's fields; Rd is written in the last of the 1+m cycles. */
+static void multiplies(void)
+{
+    for (uint32_t accumulate = 0; accumulate < 2; accumulate++) {
+        uint32_t record[SLOT_RECORD_WORDS] = {0}, registers[15] = {0}, word;
+        registers[1] = 0xFFFFFFFF;
+        registers[2] = 9; /* m is 3 */
+        registers[5] = 5;
+        record[SLOT_RECORD_CLASS] = SLOT_CLASS_MULTIPLY;
+        record[SLOT_RECORD_CONDITION] = SLOT_CONDITION_AL;
+        record[SLOT_RECORD_ACCUMULATE] = accumulate;
+        record[SLOT_RECORD_S] = 1;
+        record[SLOT_RECORD_RD] = 3;
+        record[SLOT_RECORD_RN] = 5;
+        record[SLOT_RECORD_RS] = 2;
+        record[SLOT_RECORD_RM] = 1;
+        so(slot_word_write(record, &word) == SLOT_OK && word == (accumulate ? 0xE0335291 : 0xE0135291), "a multiply has a word", word);
+        begin(&word, 1, registers, 7);
+        so(run(3) == SLOT_OK && core[SLOT_CORE_R0 + 3] == 0 && core[SLOT_CORE_PHASE] == SLOT_PHASE_STEP2 + 2, "a multiply under way", core[SLOT_CORE_PHASE]);
+        so(core[SLOT_CORE_ADDRESS] == 0 && core[SLOT_CORE_DATUM] == 0 && core[SLOT_CORE_BASE] == 0, "it latches nothing", 0);
+        so(run(1) == SLOT_OK && core[SLOT_CORE_R0 + 3] == (accumulate ? 0xFFFFFFFC : 0xFFFFFFF7), "a product", core[SLOT_CORE_R0 + 3]);
+        so(core[SLOT_CORE_PHASE] == SLOT_PHASE_STEP1 && core[SLOT_CORE_FLAGS] == 11, "N and Z are the product's, C and V are kept", core[SLOT_CORE_FLAGS]);
+        slot_word_read(word, record);
+        so(record[SLOT_RECORD_CLASS] == SLOT_CLASS_MULTIPLY && record[SLOT_RECORD_KIND] == 0 && record[SLOT_RECORD_SHIFT] == 0, "a multiply read", 0);
+        memset(record, 0, sizeof record);
+        record[SLOT_RECORD_CLASS] = SLOT_CLASS_OTHER;
+        record[SLOT_RECORD_WORD] = word;
+        so(slot_word_write(record, &word) == SLOT_NO_WORD, "5 is an Other that holds a multiply", 0);
+    }
+}
+
 static void classes(void)
 {
     uint32_t record[SLOT_RECORD_WORDS];
@@ -441,6 +472,7 @@ int main(void)
     shifts();
     conditions();
     classes();
+    multiplies();
     watched_images();
     printf("%u passed, %u failed\n", passed, failed);
     return failed == 0 ? 0 : 1;

@@ -7,7 +7,8 @@ use crate::figures::grouped;
 use crate::odd::Fields;
 use crate::pair::{Machine, Pair};
 use crate::progress::Progress;
-use interpreter::pipeline::Core;
+use interpreter::arm::{cycles_by_rs, decode, Instruction};
+use interpreter::pipeline::{Core, Phase};
 use interpreter::plain::Plain;
 use interpreter::programs::Program;
 use interpreter::random::Random;
@@ -102,6 +103,8 @@ pub trait Compared: Machine + Fields {
     fn instructions(pair: &Pair<Self>, used: u64) -> u64;
     /// The number of the phase that a good machine without a stop is in, if it has phases.
     fn phase(pair: &Pair<Self>) -> Option<u32>;
+    /// The m of the multiply that the next cycle ends, if it ends one.
+    fn multiplied(pair: &Pair<Self>) -> Option<u32>;
     /// Moves the machine near its last cycle, if it counts them.
     fn near_the_end(pair: &mut Pair<Self>, random: &mut Random);
 }
@@ -117,6 +120,15 @@ impl Compared for Core {
 
     fn phase(pair: &Pair<Core>) -> Option<u32> {
         (pair.product[31] == 0).then_some(pair.product[23])
+    }
+
+    fn multiplied(pair: &Pair<Core>) -> Option<u32> {
+        let core = pair.expected.as_ref()?;
+        let Instruction::Multiply(it) = decode(core.ix?) else {
+            return None;
+        };
+        let m = cycles_by_rs(*core.r.get(it.rs)?);
+        (core.phase == Phase::Step(m + 1)).then_some(m)
     }
 
     fn near_the_end(pair: &mut Pair<Core>, random: &mut Random) {
@@ -136,6 +148,10 @@ impl Compared for Plain {
     }
 
     fn phase(_: &Pair<Plain>) -> Option<u32> {
+        None
+    }
+
+    fn multiplied(_: &Pair<Plain>) -> Option<u32> {
         None
     }
 

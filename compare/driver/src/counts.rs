@@ -55,6 +55,8 @@ pub struct Machines {
     pub answers: [u64; 32],
     /// Single cycles by the number of the phase that they began in: 19 is step 18, the last.
     pub phases: [u64; 20],
+    /// Multiplies whose last cycle was a single one, by their m less 1.
+    pub multiplies: [u64; 16],
 }
 
 impl Machines {
@@ -75,6 +77,9 @@ impl Machines {
     pub fn sees<M: Compared>(&mut self, pair: &Pair<M>, budget: u64) {
         if let (1, Some(phase)) = (budget, M::phase(pair)) {
             self.phases[phase.min(19) as usize] += 1;
+            if let Some(m) = M::multiplied(pair) {
+                self.multiplies[m as usize - 1] += 1;
+            }
         }
     }
 }

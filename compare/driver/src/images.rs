@@ -1,6 +1,6 @@
 //! The images that are timed. Each loops without end.
 
-use interpreter::arm::{decode, Instruction, Shift};
+use interpreter::arm::{decode, Instruction, Multiply, Shift};
 use interpreter::assembler::*;
 use interpreter::programs::Program;
 
@@ -16,7 +16,19 @@ pub const MESSAGE: u32 = 0x400;
 pub const MESSAGE_BYTES: u32 = 64;
 pub const RESULT: u32 = 0x800;
 
-pub const NAMES: [&str; 4] = ["alu", "transfers", "crc", "mix"];
+/// Where the filter image keeps its samples, its coefficients and its results, and how many of the
+/// last it makes.
+pub const SAMPLES: u32 = 0xA00;
+pub const COEFFICIENTS: u32 = 0xB00;
+pub const FILTERED: u32 = 0xC00;
+pub const OUTPUTS: u32 = 32;
+
+/// A low pass of sixteen taps, which come to 2^15 together.
+pub const TAPS: [i32; 16] = [
+    78, -30, -390, -817, -273, 2259, 6231, 9326, 9326, 6231, 2259, -273, -817, -390, -30, 78,
+];
+
+pub const NAMES: [&str; 5] = ["alu", "transfers", "crc", "mix", "fir"];
 
 pub fn image(name: &str) -> Option<Program> {
     match name {
@@ -24,17 +36,24 @@ pub fn image(name: &str) -> Option<Program> {
         "transfers" => Some(transfers()),
         "crc" => Some(crc()),
         "mix" => Some(mix()),
+        "fir" => Some(fir()),
         _ => None,
     }
 }
 
-/// Another word that does the same, if this one is a move or a compare: the field that it has no
-/// use for is changed.
+/// Another word that does the same, if this one is a move, a compare or a multiply that doesn't
+/// accumulate: the field that it has no use for is changed.
 pub fn twin(word: u32) -> Option<u32> {
     match decode(word) {
         Instruction::Processing(it) if [MOV, MVN].contains(&it.operation) => Some(word ^ 1 << 16),
         // A compare with Rd 15 sets other flags.
         Instruction::Processing(it) if it.only_compares() && it.rd < 14 => Some(word ^ 1 << 12),
+        // Rn 15 is forbidden even so.
+        Instruction::Multiply(Multiply {
+            accumulate: false,
+            rn: 0..=13,
+            ..
+        }) => Some(word ^ 1 << 12),
         _ => None,
     }
 }
@@ -97,12 +116,23 @@ fn transfers() -> Program {
     program(&code, [7; 15])
 }
 
+// What functions of compiled code begin, end and are called with.
+
+fn stacked(names: &[u32]) -> u32 {
+    block(STORE | BEFORE | W, 13, list(names))
+}
+
+fn unstacked(names: &[u32]) -> u32 {
+    block(LOAD | UP | W, 13, list(names))
+}
+
+fn call(from: u32, to: u32) -> u32 {
+    branch_to(from, to) | 1 << 24
+}
+
 /// A CRC-32 over the message as a compiler would put it: a function that calls another for each
 /// byte, both stacking registers.
 fn crc() -> Program {
-    let stacked = |names: &[u32]| block(STORE | BEFORE | W, 13, list(names));
-    let unstacked = |names: &[u32]| block(LOAD | UP | W, 13, list(names));
-    let call = |from: u32, to: u32| branch_to(from, to) | 1 << 24;
     let code = [
         // 0: main
         mov(13, rotated(10, 1)), // 0x1000, the stack
@@ -168,6 +198,56 @@ fn mix() -> Program {
     program(&code, [0; 15])
 }
 
+/// One of the filter's samples, of 16 bits with their sign.
+fn sample(index: u32) -> i32 {
+    i32::from((index.wrapping_mul(0x9E37_79B9) >> 16) as i16)
+}
+
+/// A filter over the samples as a compiler would put it: a function that for each result loads
+/// samples and coefficients, sums up their products and stores what the sum comes to.
+fn fir() -> Program {
+    let address = |address: u32| rotated(12, address >> 8);
+    let code = [
+        // 0: main
+        mov(13, rotated(10, 1)),  // 0x1000, the stack
+        mov(0, address(SAMPLES)), // 4: again
+        mov(1, address(COEFFICIENTS)),
+        mov(2, address(FILTERED)),
+        mov(3, number(OUTPUTS)),
+        call(20, 28),
+        branch_to(24, 4),
+        // 28: fir
+        stacked(&[4, 5, 6, 7, 8, 14]),
+        mov(4, plain(0)), // 32: result
+        mov(5, plain(1)),
+        mov(6, number(TAPS.len() as u32)),
+        mov(7, number(0)),
+        single(LOAD | UP, 12, 4, 4), // 48: tap
+        single(LOAD | UP, 8, 5, 4),
+        mla(7, 12, 8, 7),
+        ops(SUB, 6, 6, number(1)),
+        on(NE, branch_to(64, 48)),
+        mov(7, by_amount(7, Shift::Asr, 15)),
+        single(STORE | UP, 7, 2, 4),
+        op(ADD, 0, 0, number(4)),
+        ops(SUB, 3, 3, number(1)),
+        on(NE, branch_to(84, 32)),
+        unstacked(&[4, 5, 6, 7, 8, 15]),
+    ];
+    let mut program = program(&code, [0; 15]);
+    let samples = OUTPUTS + TAPS.len() as u32 - 1;
+    put(&mut program, SAMPLES, (0..samples).map(sample));
+    put(&mut program, COEFFICIENTS, TAPS.into_iter());
+    program
+}
+
+fn put(program: &mut Program, address: u32, values: impl Iterator<Item = i32>) {
+    let places = &mut program.words[address as usize / 4..];
+    for (place, value) in places.iter_mut().zip(values) {
+        *place = value as u32;
+    }
+}
+
 #[cfg(test)]
 mod tests {
     use super::*;
@@ -210,6 +290,10 @@ mod tests {
         assert!(same(mov(3, number(7))));
         assert!(same(ops(MVN, 14, 0, by_amount(4, Shift::Lsr, 3))));
         assert!((TST..=CMN).all(|operation| same(ops(operation, 13, 2, number(9)))));
+        assert!(same(mul(3, 1, 2)));
+        assert!(same(multiply(SETS, 3, 1, 2, 13)));
+        assert_eq!(twin(multiply(0, 3, 1, 2, 14)), None);
+        assert_eq!(twin(mla(3, 1, 2, 4)), None);
         assert_eq!(twin(ops(CMP, 14, 2, plain(1))), None);
         assert_eq!(twin(op(ADD, 0, 2, plain(1))), None);
     }
@@ -222,5 +306,28 @@ mod tests {
         plain.run(&mut memory, 10_000);
         let message = MESSAGE as usize..(MESSAGE + MESSAGE_BYTES) as usize;
         assert_eq!(word(&memory, RESULT), crc32(&memory[message]));
+    }
+
+    fn filtered(samples: &[i32]) -> Vec<i32> {
+        let sum = |window: &[i32]| window.iter().zip(TAPS).map(|(x, tap)| x * tap).sum::<i32>();
+        let windows = samples.windows(TAPS.len());
+        windows.map(|window| sum(window) >> 15).collect()
+    }
+
+    #[test]
+    fn the_filter_is_one() {
+        let program = image("fir").unwrap();
+        let mut memory = program.memory();
+        let (_, mut plain) = Plain::start(program.r, program.flags, program.entry, &memory);
+        plain.run(&mut memory, 10_000);
+        let words = |from: u32, count: u32| -> Vec<i32> {
+            let at = |index| word(&memory, from + 4 * index) as i32;
+            (0..count).map(at).collect()
+        };
+        let samples = words(SAMPLES, OUTPUTS + TAPS.len() as u32 - 1);
+        let wanted = filtered(&samples);
+        assert_eq!(words(FILTERED, OUTPUTS), wanted);
+        assert_eq!(wanted.len() as u32, OUTPUTS);
+        assert!(wanted.iter().any(|&it| it > 1000) && wanted.iter().any(|&it| it < -1000));
     }
 }

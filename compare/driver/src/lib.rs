@@ -9,6 +9,7 @@ pub mod difference;
 pub mod directed;
 pub mod figures;
 pub mod images;
+pub mod multiplies;
 pub mod odd;
 pub mod pair;
 pub mod progress;

@@ -54,7 +54,7 @@ const ODD: [u32; 30] = [
 
 /// A value for a field that holds `old`, in a record of a memory of `length` bytes.
 pub fn value(random: &mut Random, old: u32, length: u32) -> u32 {
-    match random.below(12) {
+    match random.below(13) {
         0..=3 => random.pick(&ODD),
         4 => old.wrapping_add(1),
         5 => old.wrapping_sub(1),
@@ -63,6 +63,7 @@ pub fn value(random: &mut Random, old: u32, length: u32) -> u32 {
         8 => random.below(length.max(1)) & !3,
         9 => length.wrapping_add(random.below(17)).wrapping_sub(8),
         10 => random.below(length.max(1)),
+        11 => programs::of_any_size(random),
         _ => programs::instruction(random),
     }
 }
@@ -72,9 +73,13 @@ pub fn likely(random: &mut Random, field: usize, old: u32, length: u32) -> u32 {
     match field {
         15 => random.below(length.max(1)) & !3,
         16 => random.below(16),
-        17 | 19 | 21 => programs::instruction(random),
+        17 | 19 => programs::instruction(random),
+        21 if random.chance(1, 4) => programs::any_multiplication(random),
+        21 => programs::instruction(random),
         18 | 20 | 22 => 1,
-        23 => random.pick(&[0, 1, 2, 3, 3, 3, 4, 4, 5, 6, 7, 8, 12, 18, 19, 20]),
+        // Half of them in the first steps; 18 is the last of a multiply, 19 of a block load.
+        23 if random.chance(1, 2) => random.pick(&[0, 1, 2, 3, 3, 3, 4, 4]),
+        23 => random.below(17) + 4,
         24 => random.below(length.max(1)),
         _ => value(random, old, length),
     }

@@ -43,7 +43,7 @@ pub fn one(comparison: &mut Comparison, number: u64) {
 }
 
 fn draw(random: &mut Random) -> Program {
-    if random.chance(1, 10) {
+    if random.chance(1, 5) {
         return dense::image(random);
     }
     let words = match random.below(400) {

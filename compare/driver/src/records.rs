@@ -1,7 +1,9 @@
 //! The interpreter's records as the arrays of slot_core.h, and back.
 
 use crate::archive::{CoreArray, PlainArray, RecordArray};
-use interpreter::arm::{decode, Block, Branch, Instruction, Offset, Operand, Processing, Single};
+use interpreter::arm::{
+    decode, Block, Branch, Instruction, Multiply, Offset, Operand, Processing, Single,
+};
 use interpreter::pipeline::{Core, Phase};
 use interpreter::plain::Plain;
 
@@ -53,7 +55,7 @@ pub const RECORD_NAMES: [&str; 16] = [
     "p",
     "u",
     "b or s",
-    "w",
+    "w or accumulate",
     "l or link",
     "rn",
     "rd",
@@ -155,6 +157,7 @@ pub fn record_array(word: u32) -> RecordArray {
         Instruction::Single(it) => single(&mut array, &it),
         Instruction::Block(it) => block(&mut array, &it),
         Instruction::Branch(it) => branch(&mut array, &it),
+        Instruction::Multiply(it) => multiply(&mut array, &it),
         Instruction::Other => {
             array[0] = 4;
             array[14] = word;
@@ -211,6 +214,16 @@ fn branch(array: &mut RecordArray, it: &Branch) {
     array[14] = it.distance >> 2 & 0x00FF_FFFF;
 }
 
+fn multiply(array: &mut RecordArray, it: &Multiply) {
+    array[0] = 5;
+    array[5] = u32::from(it.sets);
+    array[6] = u32::from(it.accumulate);
+    array[8] = it.rn as u32;
+    array[9] = it.rd as u32;
+    array[11] = it.rm as u32;
+    array[13] = it.rs as u32;
+}
+
 fn operand(array: &mut RecordArray, kind: u32, first: u32, second: u32, third: u32) {
     array[10..14].copy_from_slice(&[kind, first, second, third]);
 }
@@ -239,7 +252,57 @@ pub fn word_of(array: &RecordArray) -> Option<u32> {
         }
         2 => condition | 1 << 27 | transfer | array[8] << 16 | array[14],
         3 => condition | 5 << 25 | array[7] << 24 | array[14],
+        5 => {
+            let registers = array[9] << 16 | array[8] << 12 | array[13] << 8 | array[11];
+            condition | array[6] << 21 | array[5] << 20 | registers | 9 << 4
+        }
         _ => array[14],
     };
     (record_array(word) == *array).then_some(word)
+}
+
+#[cfg(test)]
+mod tests {
+    use super::*;
+
+    #[test]
+    fn a_multiply() {
+        let record = record_array(0xA03B_CD9E);
+        assert_eq!(
+            record,
+            [5, 10, 0, 0, 0, 1, 1, 0, 12, 11, 0, 14, 0, 13, 0, 0]
+        );
+        assert_eq!(word_of(&record), Some(0xA03B_CD9E));
+        assert_eq!(
+            word_of(&[5, 0, 0, 0, 0, 0, 0, 0, 0, 0, 0, 0, 0, 0, 0, 0]),
+            Some(0x90)
+        );
+    }
+
+    /// A field that a multiply lacks, or one too wide; Other, or no class at all, with its word.
+    #[test]
+    fn no_multiply() {
+        let record = record_array(0xA03B_CD9E);
+        for place in [2, 3, 4, 7, 10, 12, 14, 15] {
+            let mut other = record;
+            other[place] = 1;
+            assert_eq!(word_of(&other), None, "{place}");
+        }
+        for place in [1, 8, 9, 11, 13] {
+            let mut other = record;
+            other[place] = 16;
+            assert_eq!(word_of(&other), None, "{place}");
+        }
+        for place in [5, 6] {
+            let mut other = record;
+            other[place] = 2;
+            assert_eq!(word_of(&other), None, "{place}");
+        }
+        for class in [4, 6, 7, 8] {
+            let mut other = [0; 16];
+            other[0] = class;
+            other[14] = 0xA03B_CD9E;
+            assert_eq!(word_of(&other), None, "{class}");
+        }
+    }
 }

@@ -38,6 +38,7 @@ pub fn show(comparison: &Comparison) -> String {
     }
     sections.push(answers(counts));
     sections.push(phases(&counts.core.phases));
+    sections.push(multiplies(&counts.core.multiplies));
     if counts.writes.images > 0 {
         sections.push(rewritten(&counts.writes));
     }
@@ -83,7 +84,7 @@ fn machines(core: &Machines, plain: &Machines) -> String {
 fn words(words: &Words) -> String {
     format!(
         "{} words were read, held to the interpreter's decoder and written back;\n\
-         {} records of words, most of them tampered with, were written.",
+         {} records of words, most of them made up or tampered with, were written.",
         grouped(words.words),
         grouped(words.records)
     )
@@ -118,11 +119,29 @@ fn phases(phases: &[u64; 20]) -> String {
     let cells: Vec<String> = refills
         .chain(first)
         .chain(steps)
-        .map(|(name, count)| format!("{name:<8}{:>12}", grouped(count)))
+        .map(|(name, count)| cell(&name, count))
         .collect();
-    let mut text = "Single cycles of the images' cores, by where they began: \
-                    refills of the pipe, steps of an instruction"
-        .to_string();
+    let title = "Single cycles of the images' cores, by where they began: \
+                 refills of the pipe, steps of an instruction";
+    in_rows(title, &cells)
+}
+
+fn multiplies(multiplies: &[u64; 16]) -> String {
+    let cells: Vec<String> = (1..)
+        .zip(multiplies)
+        .map(|(m, &count)| cell(&format!("m {m}"), count))
+        .collect();
+    let title = "Multiplies that such a single cycle ended, by the m that Rs gave them";
+    in_rows(title, &cells)
+}
+
+fn cell(name: &str, count: u64) -> String {
+    format!("{name:<8}{:>12}", grouped(count))
+}
+
+/// Four cells in a row.
+fn in_rows(title: &str, cells: &[String]) -> String {
+    let mut text = title.to_string();
     for row in cells.chunks(4) {
         text += "\n";
         text += &row.join("    ");

@@ -8,14 +8,21 @@ use interpreter::random::Random;
 /// The strided sample takes every word of this distance; it is odd.
 const STRIDE: u32 = 61;
 const INTERESTING: u32 = 1 << 20;
+/// All of them.
+const MULTIPLIES: u32 = 1 << 22;
+const NEIGHBOURS: u32 = 1 << 20;
 const TAMPERED_RECORDS: u32 = 2_000_000;
-const CLASSES: u32 = 8;
+/// Those that there are, and some more.
+const CLASSES: u32 = 9;
+
+/// The number of Other in a record.
+const OTHER: u32 = 4;
 
 pub fn all(comparison: &mut Comparison, seed: u64) {
     let mut random = Random::new(seed);
     let first = random.below(STRIDE);
     let strided = (u32::MAX - first) / STRIDE + 1;
-    let total = strided + INTERESTING + TAMPERED_RECORDS + CLASSES;
+    let total = strided + INTERESTING + 2 * MULTIPLIES + NEIGHBOURS + TAMPERED_RECORDS + CLASSES;
     comparison.begin("words and their records", total.into(), "words and records");
     let place = Place::Within("strided words".to_string());
     for index in 0..strided {
@@ -24,6 +31,15 @@ pub fn all(comparison: &mut Comparison, seed: u64) {
     let place = Place::Within("interesting words".to_string());
     for index in 0..INTERESTING {
         one_word(comparison, &place, interesting(index, &mut random));
+    }
+    let place = Place::Within("multiplies".to_string());
+    for index in 0..MULTIPLIES {
+        one_word(comparison, &place, multiply(index));
+        one_record(comparison, &place, &held_by_other(multiply(index)));
+    }
+    let place = Place::Within("words beside multiplies".to_string());
+    for _ in 0..NEIGHBOURS {
+        one_word(comparison, &place, beside(&mut random));
     }
     let place = Place::Within("tampered records of words".to_string());
     for _ in 0..TAMPERED_RECORDS {
@@ -121,16 +137,58 @@ fn interesting(index: u32, random: &mut Random) -> u32 {
     fixed | filling & OTHERS
 }
 
-/// The record of a random word with some fields set to other values, most of them small.
+/// One of the 2^22 multiplies: condition, accumulate, S and four registers.
+fn multiply(index: u32) -> u32 {
+    let (condition, bits) = (index >> 18, index >> 16 & 3);
+    let (registers, rm) = (index >> 4 & 0xFFF, index & 15);
+    condition << 28 | bits << 20 | registers << 8 | 9 << 4 | rm
+}
+
+/// A multiply with one or two of the bits changed that make it one.
+fn beside(random: &mut Random) -> u32 {
+    let fixed = [4, 5, 6, 7, 22, 23, 24, 25, 26, 27];
+    let word = multiply(random.below(MULTIPLIES)) ^ 1 << random.pick(&fixed);
+    if random.chance(1, 3) {
+        word ^ 1 << random.pick(&fixed)
+    } else {
+        word
+    }
+}
+
+/// An Other that holds this word, whatever it is.
+fn held_by_other(word: u32) -> RecordArray {
+    let mut record = [0; 16];
+    record[0] = OTHER;
+    record[14] = word;
+    record
+}
+
+/// The record of any word, of a multiply or of one beside it, or a multiply as another class.
+fn before_tampering(random: &mut Random) -> RecordArray {
+    let multiply = multiply(random.below(MULTIPLIES));
+    match random.below(8) {
+        0..=3 => record_array(random.word()),
+        4 => record_array(multiply),
+        5 => record_array(beside(random)),
+        6 => held_by_other(multiply),
+        _ => {
+            let mut record = record_array(multiply);
+            record[0] = random.below(CLASSES);
+            record
+        }
+    }
+}
+
+/// A record with some fields set to other values, most of them small.
 fn tampered(random: &mut Random) -> RecordArray {
-    let mut record = record_array(random.word());
+    let mut record = before_tampering(random);
     for _ in 0..=random.below(3) {
         let field = random.below(16) as usize;
         let old = record[field];
         record[field] = match random.below(8) {
             0 => random.word(),
             1 => random.below(40),
-            2 => random.below(5),
+            2 => random.below(CLASSES),
             3 => old.wrapping_add(1),
             4 => old ^ 1 << random.below(32),
             5 => random.pick(&[

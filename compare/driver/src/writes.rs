@@ -19,7 +19,7 @@ pub fn image(random: &mut Random) -> Program {
 
 /// A word for the place of `old`; `elsewhere` is another one of the memory.
 pub fn word(random: &mut Random, old: u32, elsewhere: u32) -> u32 {
-    match random.below(12) {
+    match random.below(13) {
         0 => old,
         1 | 2 => on(random.below(16), old),
         3 => old ^ 1 << random.below(32),
@@ -27,6 +27,7 @@ pub fn word(random: &mut Random, old: u32, elsewhere: u32) -> u32 {
         7 | 8 => elsewhere,
         9 => branch(random.below(24) as i32 - 12),
         10 => images::twin(old).unwrap_or(on(NEVER, old)),
+        11 => programs::any_multiplication(random),
         _ => random.pick(&[0, SWI, u32::MAX]),
     }
 }

@@ -80,11 +80,23 @@ pub struct Branch {
 }
 
 #[derive(Clone, Copy, Debug, PartialEq, Eq)]
+pub struct Multiply {
+    pub accumulate: bool,
+    pub sets: bool,
+    pub rd: usize,
+    /// Added where it accumulates, else without use.
+    pub rn: usize,
+    pub rs: usize,
+    pub rm: usize,
+}
+
+#[derive(Clone, Copy, Debug, PartialEq, Eq)]
 pub enum Instruction {
     Processing(Processing),
     Single(Single),
     Block(Block),
     Branch(Branch),
+    Multiply(Multiply),
     Other,
 }
 
@@ -111,10 +123,12 @@ fn shift_kind(word: u32) -> Shift {
 
 /// Reads a word. The condition plays no part in it.
 pub fn decode(word: u32) -> Instruction {
-    decode_inline(word)
+    decode_multiply(word).map_or_else(|| decode_inline(word), Instruction::Multiply)
 }
 
-/// The same inside its caller, which then works out no more fields than it uses.
+/// The same inside its caller, which then works out no more fields than it uses. A multiply is still
+/// an Other here, for `decode_multiply` to tell from one: with its fields among those of the other
+/// classes the compiler works out all of them for all.
 #[inline(always)]
 pub fn decode_inline(word: u32) -> Instruction {
     match bits(word, 27, 25) {
@@ -168,6 +182,20 @@ fn decode_processing(word: u32) -> Instruction {
     })
 }
 
+/// The word as a multiply, if it is one.
+#[inline(always)]
+pub fn decode_multiply(word: u32) -> Option<Multiply> {
+    let multiplies = bits(word, 27, 22) == 0 && bits(word, 7, 4) == 9;
+    multiplies.then(|| Multiply {
+        accumulate: bit(word, 21),
+        sets: bit(word, 20),
+        rd: register(word, 16),
+        rn: register(word, 12),
+        rs: register(word, 8),
+        rm: register(word, 0),
+    })
+}
+
 #[inline(always)]
 fn decode_single(word: u32) -> Instruction {
     let offset = if !bit(word, 25) {
@@ -217,6 +245,13 @@ impl Block {
     }
 }
 
+impl Multiply {
+    /// Its rules of stop 23.
+    pub fn is_forbidden(&self) -> bool {
+        self.rd == self.rm || [self.rd, self.rn, self.rs, self.rm].contains(&15)
+    }
+}
+
 /// Does a word of this condition run under these flags?
 pub fn passes(condition: u32, flags: u32) -> bool {
     let (n, z, c, v) = (
@@ -251,6 +286,7 @@ pub fn forbidden(instruction: &Instruction) -> bool {
                 || it.byte && it.rd == 15
         }
         Instruction::Block(it) => it.rn == 15 || it.s || it.list == 0,
+        Instruction::Multiply(it) => it.is_forbidden(),
         Instruction::Branch(_) | Instruction::Other => false,
     }
 }
@@ -352,6 +388,22 @@ pub fn compute(operation: u32, x: u32, operand: Shifted, flags: u32) -> Computed
             }
         }
     }
+}
+
+/// A product and what is added to it, under the old flags, of which C and V stay.
+pub fn product(x: u32, y: u32, more: u32, flags: u32) -> Computed {
+    let result = x.wrapping_mul(y).wrapping_add(more);
+    Computed {
+        result,
+        flags: pack(result, flags & C != 0, flags & 1 == 1),
+    }
+}
+
+/// The paper's m, a multiply's cycles past its first, by Rs's value: one for bit 0, another for each
+/// two bits up to the highest 1; bit 31 would be the 17th and takes none.
+pub fn cycles_by_rs(rs: u32) -> u32 {
+    let used = u32::BITS - rs.leading_zeros();
+    (used / 2 + 1).min(16)
 }
 
 fn pack(result: u32, carry: bool, overflow: bool) -> u32 {

@@ -29,12 +29,19 @@ pub const W: u32 = 1 << 21;
 pub const LOAD: u32 = 1 << 20;
 pub const STORE: u32 = 0;
 
+// Bits of multiplies.
+pub const ACCUMULATE: u32 = 1 << 21;
+pub const SETS: u32 = 1 << 20;
+
 pub const PC: u32 = 15;
 pub const ALWAYS: u32 = 14;
 pub const NEVER: u32 = 15;
 
 /// SWI 0, an Other word.
 pub const SWI: u32 = 0xEF00_0000;
+
+/// SWP R0, R2, [R1], an Other word near the multiplies.
+pub const SWP: u32 = 0xE101_0092;
 
 /// The same word under another condition.
 pub fn on(condition: u32, word: u32) -> u32 {
@@ -88,6 +95,31 @@ pub fn movs(rd: u32, operand: u32) -> u32 {
 /// Puts the flags, with an address, into Rd.
 pub fn keep_flags(rd: u32) -> u32 {
     mov(rd, plain(PC))
+}
+
+/// A multiply with all its fields; `bits` are of ACCUMULATE and SETS.
+pub fn multiply(bits: u32, rd: u32, rm: u32, rs: u32, rn: u32) -> u32 {
+    ALWAYS << 28 | bits | rd << 16 | rn << 12 | rs << 8 | 9 << 4 | rm
+}
+
+/// MUL Rd, Rm, Rs.
+pub fn mul(rd: u32, rm: u32, rs: u32) -> u32 {
+    multiply(0, rd, rm, rs, 0)
+}
+
+/// MULS Rd, Rm, Rs.
+pub fn muls(rd: u32, rm: u32, rs: u32) -> u32 {
+    multiply(SETS, rd, rm, rs, 0)
+}
+
+/// MLA Rd, Rm, Rs, Rn.
+pub fn mla(rd: u32, rm: u32, rs: u32, rn: u32) -> u32 {
+    multiply(ACCUMULATE, rd, rm, rs, rn)
+}
+
+/// MLAS Rd, Rm, Rs, Rn.
+pub fn mlas(rd: u32, rm: u32, rs: u32, rn: u32) -> u32 {
+    multiply(ACCUMULATE | SETS, rd, rm, rs, rn)
 }
 
 /// A single transfer by a number of 12 bits; `bits` are of BEFORE, UP, BYTE, W and LOAD.

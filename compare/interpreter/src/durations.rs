@@ -2,9 +2,9 @@
 
 use crate::arm::{decode, passes, Instruction, Operand};
 
-/// The cycles of a word that doesn't stop, under the flags it meets: its own steps, plus 2 if the
-/// counter is stored.
-pub fn duration(word: u32, flags: u32) -> u64 {
+/// The cycles of a word that doesn't stop, under the flags and registers it meets: its own steps,
+/// plus 2 if the counter is stored.
+pub fn duration(word: u32, flags: u32, r: &[u32; 15]) -> u64 {
     if !passes(word >> 28, flags) {
         return 1;
     }
@@ -28,6 +28,7 @@ pub fn duration(word: u32, flags: u32) -> u64 {
             }
         }
         Instruction::Branch(_) => 1 + refills(true),
+        Instruction::Multiply(it) => 1 + m(r[it.rs]),
         Instruction::Other => panic!("an Other word has no duration"),
     }
 }
@@ -38,4 +39,21 @@ fn refills(stored: bool) -> u64 {
     } else {
         0
     }
+}
+
+/// The least and the greatest Rs of a multiply's m, which is 1 to 16.
+pub fn ends(m: u32) -> [u32; 2] {
+    match m {
+        1 => [0, 1],
+        16 => [1 << 29, u32::MAX],
+        _ => [1 << (2 * m - 3), (1 << (2 * m - 1)) - 1],
+    }
+}
+
+fn m(rs: u32) -> u64 {
+    let takes = |m: &u32| {
+        let [least, greatest] = ends(*m);
+        least <= rs && rs <= greatest
+    };
+    (1..=16).find(takes).expect("an m for every Rs").into()
 }

@@ -1,4 +1,4 @@
-//! An interpreter of the ARM2 machine, plain and pipelined, written from the scope paper alone.
+//! An interpreter of the ARM2 machine, plain and pipelined, written from the papers alone.
 //! It shares no code, table or generated file with the product that it is compared with.
 
 #![allow(clippy::manual_is_multiple_of)]

@@ -3,9 +3,9 @@
 
 use crate::answers::*;
 use crate::arm::{
-    compute, constant, counter, counter_of, decode_inline, forbidden, passes, r15_word,
-    shift_by_amount, shift_by_register, Block, Branch, Instruction, Offset, Operand, Processing,
-    Shifted, Single, C,
+    compute, constant, counter, counter_of, cycles_by_rs, decode, decode_inline, decode_multiply,
+    forbidden, passes, product, r15_word, shift_by_amount, shift_by_register, Block, Branch,
+    Instruction, Multiply, Offset, Operand, Processing, Shifted, Single, C,
 };
 use crate::memory;
 
@@ -121,7 +121,8 @@ impl Core {
         bad_number || bad_phase
     }
 
-    /// Can a step other than 1 be the next one, by IX, the flags and the address latch?
+    /// Can a step other than 1 be the next one, by IX, the flags, the address latch and, where it
+    /// multiplies, the present value of Rs?
     fn can_be_in(&self, step: u32) -> bool {
         let Some(word) = self.ix else {
             return false;
@@ -129,7 +130,7 @@ impl Core {
         if !passes(word >> 28, self.flags) {
             return false;
         }
-        let instruction = decode_inline(word);
+        let instruction = decode(word);
         if forbidden(&instruction) {
             return false;
         }
@@ -148,6 +149,7 @@ impl Core {
                     (n + 2).saturating_sub(step),
                 )
             }
+            Instruction::Multiply(it) => (1 + cycles_by_rs(self.r[it.rs]), 0),
         };
         (2..=steps).contains(&step)
             && (0..words_left).all(|index| self.is_inside(self.address.wrapping_add(4 * index)))
@@ -269,7 +271,7 @@ impl Core {
             Instruction::Single(it) => self.begin_single(&it, memory)?,
             Instruction::Block(it) => self.begin_block(&it, memory)?,
             Instruction::Branch(it) => self.branch(&it, memory),
-            Instruction::Other => return Err(OTHER),
+            Instruction::Multiply(_) | Instruction::Other => self.begin_other(word, memory)?,
         }
         Ok(())
     }
@@ -323,6 +325,18 @@ impl Core {
             self.r[14] = r15_word(self.flags, r15.wrapping_sub(4));
         }
         self.store_counter(counter(r15.wrapping_add(it.distance)));
+    }
+
+    /// A word that is no other class's: a multiply does nothing before its last step, which is the
+    /// second or a later one.
+    fn begin_other(&mut self, word: u32, memory: &[u8]) -> Result<(), u32> {
+        let it = decode_multiply(word).ok_or(OTHER)?;
+        if it.is_forbidden() {
+            return Err(FORBIDDEN);
+        }
+        self.fetch(memory);
+        self.leave(Phase::Step(2));
+        Ok(())
     }
 
     fn begin_single(&mut self, it: &Single, memory: &[u8]) -> Result<(), u32> {
@@ -406,12 +420,15 @@ impl Core {
 
     fn later_step(&mut self, step: u32, memory: &mut [u8]) {
         let word = self.ix.expect("IX holds a word in its own steps");
+        if let Some(it) = decode_multiply(word) {
+            return self.multiply_step(&it, step);
+        }
         match decode_inline(word) {
             Instruction::Processing(it) => self.second_step(&it),
             Instruction::Single(it) => self.single_step(&it, step, memory),
             Instruction::Block(it) if it.load => self.block_load_step(&it, step, memory),
             Instruction::Block(it) => self.block_store_step(&it, step, memory),
-            Instruction::Branch(_) | Instruction::Other => unreachable!("one step at most"),
+            _ => unreachable!("one step at most"),
         }
     }
 
@@ -471,6 +488,21 @@ impl Core {
         self.leave(Phase::Step(step + 1));
         self.address = address.wrapping_add(4);
         self.data = self.read_with_flags(nth_name(it.list, step - 1), self.pc);
+    }
+
+    /// Rs stays as it is until the last step, so that it tells in each which one that is.
+    fn multiply_step(&mut self, it: &Multiply, step: u32) {
+        let rs = self.r[it.rs];
+        if step <= cycles_by_rs(rs) {
+            return self.leave(Phase::Step(step + 1));
+        }
+        let more = if it.accumulate { self.r[it.rn] } else { 0 };
+        let computed = product(self.r[it.rm], rs, more, self.flags);
+        if it.sets {
+            self.flags = computed.flags;
+        }
+        self.r[it.rd] = computed.result;
+        self.retire();
     }
 }
 

@@ -2,8 +2,9 @@
 
 use crate::answers::*;
 use crate::arm::{
-    compute, constant, counter, counter_of, decode, forbidden, passes, r15_word, shift_by_amount,
-    shift_by_register, Block, Branch, Instruction, Offset, Operand, Processing, Shifted, Single, C,
+    compute, constant, counter, counter_of, decode, forbidden, passes, product, r15_word,
+    shift_by_amount, shift_by_register, Block, Branch, Instruction, Multiply, Offset, Operand,
+    Processing, Shifted, Single, C,
 };
 use crate::memory;
 
@@ -98,6 +99,7 @@ impl Plain {
             Instruction::Single(it) => self.single(&it, memory)?,
             Instruction::Block(it) => self.block(&it, memory)?,
             Instruction::Branch(it) => Some(self.branch(&it)),
+            Instruction::Multiply(it) => self.multiply(&it),
             Instruction::Other => unreachable!(),
         };
         Ok(stored.unwrap_or(following))
@@ -258,6 +260,15 @@ impl Plain {
             self.r[14] = r15_word(self.flags, self.a.wrapping_add(4));
         }
         counter(self.a.wrapping_add(8).wrapping_add(it.distance))
+    }
+
+    fn multiply(&mut self, it: &Multiply) -> Option<u32> {
+        let more = if it.accumulate { self.r[it.rn] } else { 0 };
+        let computed = product(self.r[it.rm], self.r[it.rs], more, self.flags);
+        if it.sets {
+            self.flags = computed.flags;
+        }
+        self.set(it.rd, computed.result)
     }
 
     /// The word of this address stands at A+4 or A+8.

@@ -30,12 +30,18 @@ impl Program {
 
 /// A word of a class that runs and meets no rule of 23.
 pub fn instruction(random: &mut Random) -> u32 {
-    let word = match random.below(20) {
+    let word = match random.below(23) {
         0..=9 => processing(random),
         10..=13 => transfer(random),
         14..=17 => block_transfer(random),
-        _ => branch_about(random),
+        18..=19 => branch_about(random),
+        _ => multiplication(random),
     };
+    on_some(random, word)
+}
+
+/// The word under a condition that is mostly always.
+fn on_some(random: &mut Random, word: u32) -> u32 {
     let condition = if random.chance(2, 3) {
         ALWAYS
     } else {
@@ -130,19 +136,44 @@ fn branch_about(random: &mut Random) -> u32 {
     }
 }
 
+/// A multiply that meets no rule of 23: Rm is another register than Rd.
+pub fn multiplication(random: &mut Random) -> u32 {
+    let bits = random.pick(&[0, ACCUMULATE]) | random.pick(&[0, SETS]);
+    let rd = random.below(15);
+    let rm = (rd + 1 + random.below(14)) % 15;
+    multiply(bits, rd, rm, random.below(15), random.below(15))
+}
+
+/// A multiply of any fields, most of which meet a rule of 23: Rm is Rd, or some field is 15.
+pub fn any_multiplication(random: &mut Random) -> u32 {
+    let word = multiplication(random);
+    let word = match random.below(4) {
+        0 => word & !15 | word >> 16 & 15,
+        1 => word | 15 << random.pick(&[0, 8, 12, 16]),
+        2 => word & 0xFFF0_00F0 | random.word() & 0x000F_FF0F,
+        _ => word,
+    };
+    on_some(random, word)
+}
+
 /// Mostly small numbers, which address memories of up to `length` bytes.
 pub fn registers(random: &mut Random, length: u32) -> [u32; 15] {
     let mut r = [0; 15];
     for value in &mut r {
-        *value = match random.below(8) {
-            0 => random.word(),
-            1 => random.pick(&[0, 1, 0x7FFF_FFFF, 0x8000_0000, 0xFFFF_FFFF, 0x8000_0001]),
-            2 => random.below(40),
-            3 => random.below(length),
+        *value = match random.below(9) {
+            0 | 1 => of_any_size(random),
+            2 => random.pick(&[0, 1, 0x7FFF_FFFF, 0x8000_0000, 0xFFFF_FFFF, 0x8000_0001]),
+            3 => random.below(40),
+            4 => random.below(length),
             _ => random.below(length) & !3,
         };
     }
     r
+}
+
+/// A number of 1 to 32 bits, each as likely, so that as Rs it gives a multiply any of its lengths.
+pub fn of_any_size(random: &mut Random) -> u32 {
+    random.word() >> random.below(32)
 }
 
 /// A program of random instructions, as likely as not to stop soon.
@@ -155,12 +186,14 @@ pub fn program(random: &mut Random, words: u32) -> Program {
     }
 }
 
-/// A program of words of any kind.
+/// A program of words of any kind, multiplies that meet 23 among them.
 pub fn noise(random: &mut Random, words: u32) -> Program {
     let mut program = program(random, words);
     for word in &mut program.words {
         if random.chance(1, 4) {
             *word = random.word();
+        } else if random.chance(1, 16) {
+            *word = any_multiplication(random);
         }
     }
     program

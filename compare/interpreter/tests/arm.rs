@@ -1,6 +1,7 @@
 //! Conditions, shifts, sums and the decoder against slower descriptions of them.
 
 use interpreter::arm::*;
+use interpreter::durations::ends;
 use interpreter::random::Random;
 
 const SHIFTS: [Shift; 4] = [Shift::Lsl, Shift::Lsr, Shift::Asr, Shift::Ror];
@@ -218,6 +219,7 @@ fn classes() {
         Instruction::Single(_) => 's',
         Instruction::Block(_) => 'k',
         Instruction::Branch(_) => 'b',
+        Instruction::Multiply(_) => 'm',
         Instruction::Other => 'o',
     };
     let cases = [
@@ -225,8 +227,15 @@ fn classes() {
         (0xE1A0_0090, 'o'), // bits 7 and 4 without I
         (0xE1A0_0080, 'p'),
         (0xE1A0_0010, 'p'),
-        (0xE000_0291, 'o'), // a multiply
+        (0xE000_0291, 'm'),
+        (0xE03F_FF9F, 'm'),
+        (0xE080_0291, 'o'), // a long multiply
+        (0xE040_0291, 'o'),
+        (0xE000_02B1, 'o'), // a halfword
         (0xE101_2093, 'o'), // a swap
+        (0xE200_0291, 'p'), // a constant
+        (0xE000_0211, 'p'),
+        (0xE000_0281, 'p'),
         (0xE591_0FFF, 's'), // a number with bit 4
         (0xE791_0010, 'o'), // a register offset with bit 4
         (0xE791_0080, 's'),
@@ -236,6 +245,7 @@ fn classes() {
         (0xEE00_0000, 'o'),
         (0xEF00_0000, 'o'),
         (0xFA00_0000, 'b'), // the condition plays no part
+        (0xF000_0291, 'm'),
         (0xFF00_0000, 'o'),
     ];
     for (word, letter) in cases {
@@ -253,4 +263,158 @@ fn branch_distances() {
     assert_eq!(distance(0xEA00_0001), 4);
     assert_eq!(distance(0xEA80_0000), -(1 << 25));
     assert_eq!(distance(0xEA7F_FFFF), (1 << 25) - 4);
+}
+
+/// With bits 27..25 all 0 and bits 7 and 4 both 1: the multiplies are those whose bits 24..22 and
+/// 6..5, written out, are all 0, and the rest is Other.
+#[test]
+fn multiplies_and_their_neighbours() {
+    let mut random = Random::new(8);
+    let mut multiplies = 0;
+    for index in 0..1 << 11 {
+        let fixed = (index >> 6) << 20 | 1 << 7 | (index >> 4 & 3) << 5 | 1 << 4;
+        let filling = match index & 15 {
+            0 => 0,
+            1 => u32::MAX,
+            _ => random.word(),
+        };
+        let word = fixed | filling & 0xF00F_FF0F;
+        let digits = format!("{word:032b}");
+        let digits = (&digits[4..10], &digits[24..28]);
+        let multiplies_here = digits == ("000000", "1001");
+        multiplies += u32::from(multiplies_here);
+        match decode(word) {
+            Instruction::Multiply(_) => assert!(multiplies_here, "{word:08X}"),
+            it => assert!(it == Instruction::Other && !multiplies_here, "{word:08X}"),
+        }
+    }
+    assert_eq!(multiplies, 4 * 16);
+}
+
+#[test]
+fn fields_of_a_multiply() {
+    let it = |accumulate, sets, rd, rn, rs, rm| {
+        Instruction::Multiply(Multiply {
+            accumulate,
+            sets,
+            rd,
+            rn,
+            rs,
+            rm,
+        })
+    };
+    assert_eq!(decode(0xE000_0291), it(false, false, 0, 0, 2, 1));
+    assert_eq!(decode(0x0011_0392), it(false, true, 1, 0, 3, 2));
+    assert_eq!(decode(0xE023_6594), it(true, false, 3, 6, 5, 4));
+    assert_eq!(decode(0xF03A_BC9D), it(true, true, 10, 11, 12, 13));
+    assert_eq!(decode(0xE00A_BC9D), it(false, false, 10, 11, 12, 13));
+}
+
+#[test]
+fn registers_of_a_multiply() {
+    for fields in 0..1u32 << 16 {
+        let digits = format!("{fields:04x}");
+        let (rd, rm) = (&digits[..1], &digits[3..]);
+        let wanted = rd == rm || digits.contains('f');
+        for form in [0xE000_0090, 0xE030_0090] {
+            let word = form | (fields >> 4) << 8 | fields & 15;
+            assert_eq!(forbidden(&decode(word)), wanted, "{word:08X}");
+        }
+    }
+}
+
+/// As the multiplier does it: the lowest bit in one cycle, then two bits in each while there are
+/// any left and it has not done sixteen.
+fn two_bits_a_cycle(rs: u32) -> u32 {
+    let (mut left, mut cycles) = (rs >> 1, 1);
+    while left != 0 && cycles < 16 {
+        left >>= 2;
+        cycles += 1;
+    }
+    cycles
+}
+
+#[test]
+fn cycles_of_a_multiply() {
+    let table = [
+        [0, 1],
+        [2, 7],
+        [8, 31],
+        [32, 127],
+        [128, 511],
+        [512, 2_047],
+        [2_048, 8_191],
+        [8_192, 32_767],
+        [32_768, 131_071],
+        [131_072, 524_287],
+        [524_288, 2_097_151],
+        [2_097_152, 8_388_607],
+        [8_388_608, 33_554_431],
+        [33_554_432, 134_217_727],
+        [134_217_728, 536_870_911],
+        [536_870_912, 4_294_967_295],
+    ];
+    let mut random = Random::new(9);
+    for (m, [least, greatest]) in (1..).zip(table) {
+        assert_eq!(ends(m), [least, greatest]);
+        let between = (0..1000).map(|_| least + random.below((greatest - least).max(1)));
+        for rs in [least, greatest].into_iter().chain(between) {
+            assert_eq!(cycles_by_rs(rs), m, "{rs}");
+            assert_eq!(two_bits_a_cycle(rs), m, "{rs}");
+        }
+    }
+    for rs in 0..1 << 20 {
+        assert_eq!(cycles_by_rs(rs), two_bits_a_cycle(rs));
+    }
+}
+
+/// A product bit by bit: for each 1 of y the sum with x, one place further up each time.
+fn long_hand(x: u32, y: u32, more: u32) -> u32 {
+    let (mut sum, mut x) = (more, x);
+    for place in 0..32 {
+        if y >> place & 1 == 1 {
+            sum = ripple(sum, x, false).0;
+        }
+        x <<= 1;
+    }
+    sum
+}
+
+#[test]
+fn products_bit_by_bit() {
+    let mut random = Random::new(10);
+    let mut values = vec![
+        0,
+        1,
+        2,
+        3,
+        0xFFFF,
+        0x0001_0000,
+        0x7FFF_FFFF,
+        0x8000_0000,
+        0x8000_0001,
+        u32::MAX,
+    ];
+    values.extend((0..20).map(|_| random.word()));
+    for &x in &values {
+        for &y in &values {
+            let near = long_hand(x, y, 0).wrapping_neg();
+            for more in [0, 1, near, near.wrapping_sub(1), random.word()] {
+                let result = long_hand(x, y, more);
+                for flags in 0..16 {
+                    let nz = (result >> 31) * 8 + u32::from(result == 0) * 4;
+                    let flags_then = nz + flags % 4;
+                    let computed = product(x, y, more, flags);
+                    assert_eq!(
+                        computed,
+                        Computed {
+                            result,
+                            flags: flags_then
+                        },
+                        "{x} {y} {more}"
+                    );
+                }
+            }
+        }
+    }
 }

@@ -5,6 +5,7 @@ mod common;
 use common::{memory, registers};
 use interpreter::arm::Shift;
 use interpreter::assembler::*;
+use interpreter::durations::ends;
 use interpreter::memory::word;
 use interpreter::pipeline::{Core, Phase};
 use Phase::{Refill1, Refill2, Step};
@@ -334,6 +335,90 @@ fn a_block_store() {
     assert_eq!((core.r[1], core.retired, core.cycles), (0x53, 1, 7));
 }
 
+/// Every m at both ends, in every form: the whole record after each cycle.
+#[test]
+fn a_multiply() {
+    for (m, rs) in (1..=16).flat_map(|m| ends(m).map(|rs| (m, rs))) {
+        let (x, more, flags) = (0x8000_0003, 5, 0x7);
+        let forms = [
+            (mul(0, 1, 2), 0, false),
+            (muls(0, 1, 2), 0, true),
+            (mla(0, 1, 2, 3), more, false),
+            (mlas(0, 1, 2, 3), more, true),
+        ];
+        for (word, more, sets) in forms {
+            let r = registers(&[(0, 9), (1, x), (2, rs), (3, 5)]);
+            let (core, mut lent) = before(word, r, flags);
+            let (at_12, at_16) = (Some(at(&lent, 12)), Some(at(&lent, 16)));
+            let mut now = core.clone();
+            for step in 1..=m {
+                (_, _, now) = now.run(&mut lent, 1);
+                let waiting = Core {
+                    pc: 20,
+                    ir1: at_16,
+                    ir2: at_12,
+                    phase: Step(step + 1),
+                    cycles: 2 + u64::from(step),
+                    ..core.clone()
+                };
+                assert_eq!(now, waiting, "{word:08X} by {rs:X}");
+            }
+            (_, _, now) = now.run(&mut lent, 1);
+            let result = (u64::from(x) * u64::from(rs) + more) as u32;
+            let nz = match result {
+                0 => 4,
+                0x8000_0000.. => 8,
+                _ => 0,
+            };
+            let done = Core {
+                r: registers(&[(0, result), (1, x), (2, rs), (3, 5)]),
+                pc: 20,
+                flags: if sets { nz + 3 } else { flags },
+                ir1: at_16,
+                ir2: at_12,
+                ix: at_12,
+                cycles: 3 + u64::from(m),
+                retired: 1,
+                ..core
+            };
+            assert_eq!(now, done, "{word:08X} by {rs:X}");
+        }
+    }
+}
+
+/// Rd as Rs, as Rn and as both is written in the last cycle only, which the old Rs places.
+#[test]
+fn a_multiply_to_its_own_registers() {
+    for (m, rs) in (1..=16).flat_map(|m| ends(m).map(|rs| (m, rs))) {
+        let result = rs.wrapping_mul(0x1000_0000);
+        let words = [
+            (mul(2, 1, 2), result),
+            (mla(2, 1, 2, 3), result.wrapping_add(7)),
+            (mla(2, 1, 2, 2), result.wrapping_add(rs)),
+        ];
+        for (word, wanted) in words {
+            let r = registers(&[(1, 0x1000_0000), (2, rs), (3, 7)]);
+            let (mut core, mut lent) = before(word, r, 0);
+            let (_, _, waited) = core.clone().run(&mut lent, m.into());
+            assert_eq!((waited.r, waited.phase), (r, Step(m + 1)));
+            assert_eq!(cycles(&mut core, &mut lent).len() as u32, m + 1);
+            assert_eq!((core.r[2], core.r[3]), (wanted, 7));
+        }
+        let r = registers(&[(1, 3), (2, rs), (4, 11)]);
+        let (mut core, mut lent) = before(mla(4, 1, 2, 4), r, 0);
+        assert_eq!(cycles(&mut core, &mut lent).len() as u32, m + 1);
+        assert_eq!(core.r[4], rs.wrapping_mul(3).wrapping_add(11));
+    }
+}
+
+#[test]
+fn a_multiply_on_a_failed_condition() {
+    let r = registers(&[(1, 3), (2, u32::MAX)]);
+    let (mut core, mut lent) = before(on(0, muls(0, 1, 2)), r, 0);
+    assert_eq!(cycles(&mut core, &mut lent), [(Step(1), 0, 0, 0)]);
+    assert_eq!((core.r, core.flags, core.retired), (r, 0, 1));
+}
+
 #[test]
 fn a_failed_condition() {
     let (mut core, mut lent) = before(on(0, block(LOAD | UP, 1, 0xFFFF)), [0; 15], 0);
@@ -355,6 +440,27 @@ fn unneeded_latches_are_cleared_by_the_next_cycle() {
     let (_, _, after) = dirty.run(&mut lent, 1);
     let (_, _, clean) = core.run(&mut lent, 1);
     assert_eq!(after, clean);
+}
+
+/// In a multiply no step needs any of the three.
+#[test]
+fn latches_in_a_multiply() {
+    let r = registers(&[(1, 3), (2, 0x55)]);
+    let (core, mut lent) = before(mul(0, 1, 2), r, 0);
+    for done in 0..5 {
+        let (_, _, clean) = core.clone().run(&mut lent, done);
+        let dirty = Core {
+            address: 0xFFFF_FFFD,
+            data: 2,
+            base: 3,
+            ..clean.clone()
+        };
+        let (answer, _, same) = dirty.clone().run(&mut lent, 0);
+        assert_eq!((answer, &same), (0, &dirty));
+        let (answer, _, after) = dirty.run(&mut lent, 1);
+        let (_, _, clean) = clean.run(&mut lent, 1);
+        assert_eq!((answer, after), (0, clean));
+    }
 }
 
 #[test]

@@ -139,6 +139,78 @@ fn a_skipped_branch_costs_1() {
     assert_eq!((after.a, after.cycles, after.r[14]), (12, 1, 0));
 }
 
+/// What the request for multiplies says of Rs, with the duration.
+#[test]
+fn durations_of_multiplies() {
+    let cases = [
+        (0, 2),
+        (1, 2),
+        (2, 3),
+        (7, 3),
+        (8, 4),
+        (31, 4),
+        ((1 << 27) - 1, 15),
+        (1 << 27, 16),
+        ((1 << 29) - 1, 16),
+        (1 << 29, 17),
+        (u32::MAX, 17),
+    ];
+    for (rs, cycles) in cases {
+        for word in [mul(0, 1, 2), mlas(0, 1, 2, 3), mul(2, 1, 2)] {
+            let r = registers(&[(1, 3), (2, rs)]);
+            let after = one(memory(64, &[]), 8, word, r, 0);
+            assert_eq!((after.stop, after.cycles), (0, cycles), "{rs:X}");
+        }
+    }
+}
+
+#[test]
+fn multiplies() {
+    let flagged = |word, values: &[(usize, u32)], flags| {
+        let after = one(memory(64, &[]), 8, word, registers(values), flags);
+        assert_eq!((after.stop, after.a), (0, 12));
+        (after.r[0], after.flags)
+    };
+    let six = [(1, 2), (2, 3), (3, 4)];
+    assert_eq!(flagged(mul(0, 1, 2), &six, 0xF), (6, 0xF));
+    assert_eq!(flagged(mla(0, 1, 2, 3), &six, 0xF), (10, 0xF));
+    assert_eq!(flagged(muls(0, 1, 2), &six, 0xF), (6, 0x3));
+    assert_eq!(flagged(mlas(0, 1, 2, 3), &six, 0xC), (10, 0x0));
+    let wraps = [(1, 0x0001_0000), (2, 0x0001_0000), (3, 0xFFFF_FFFF)];
+    assert_eq!(flagged(muls(0, 1, 2), &wraps, 0x8), (0, 0x4));
+    assert_eq!(flagged(muls(0, 1, 2), &wraps, 0x3), (0, 0x7));
+    assert_eq!(flagged(mlas(0, 1, 2, 3), &wraps, 0x5), (0xFFFF_FFFF, 0x9));
+    let signs = [(1, 0xFFFF_FFFF), (2, 0xFFFF_FFFF), (3, 0xFFFF_FFFF)];
+    assert_eq!(flagged(muls(0, 1, 2), &signs, 0x0), (1, 0x0));
+    assert_eq!(flagged(mlas(0, 1, 2, 3), &signs, 0x2), (0, 0x6));
+    // Rd may be Rs, Rn or both.
+    let own = [(0, 5), (1, 7)];
+    assert_eq!(flagged(mul(0, 1, 0), &own, 0), (35, 0));
+    assert_eq!(flagged(mla(0, 1, 1, 0), &own, 0), (54, 0));
+    assert_eq!(flagged(mla(0, 1, 0, 0), &own, 0), (40, 0));
+}
+
+#[test]
+fn forbidden_multiplies() {
+    let words = [
+        mul(1, 1, 2),
+        mla(1, 1, 2, 3),
+        mul(15, 1, 2),
+        mul(1, 15, 2),
+        mul(1, 2, 15),
+        mla(1, 2, 3, 15),
+        multiply(0, 1, 2, 3, 15),
+    ];
+    for word in words {
+        for word in [word, word | SETS] {
+            let after = one(memory(64, &[]), 8, word, [5; 15], 3);
+            assert_eq!((after.stop, after.r, after.cycles), (23, [5; 15], 0));
+            let after = one(memory(64, &[]), 8, on(0, word), [5; 15], 3);
+            assert_eq!((after.stop, after.r, after.cycles), (0, [5; 15], 1));
+        }
+    }
+}
+
 const REPORT: [u32; 4] = [0xE3A0_0005, 0xE250_0001, 0x1AFF_FFFD, 0xEF00_0000];
 
 #[test]
@@ -199,4 +271,8 @@ fn words_of_known_books() {
     assert_eq!(op(ORR, 1, 1, by_amount(2, Shift::Asr, 4)), 0xE181_1242);
     assert_eq!(op(AND, 1, 1, by_amount(2, Shift::Ror, 31)), 0xE001_1FE2);
     assert_eq!(branch_link(-2), 0xEBFF_FFFE);
+    assert_eq!(mul(0, 1, 2), 0xE000_0291);
+    assert_eq!(muls(1, 2, 3), 0xE011_0392);
+    assert_eq!(mla(3, 4, 5, 6), 0xE023_6594);
+    assert_eq!(mlas(7, 8, 9, 10), 0xE037_A998);
 }

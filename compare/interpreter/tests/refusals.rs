@@ -3,8 +3,9 @@
 mod common;
 
 use common::memory;
-use interpreter::arm::Shift;
+use interpreter::arm::{decode, Instruction, Shift};
 use interpreter::assembler::*;
+use interpreter::durations::ends;
 use interpreter::pipeline::{Core, Phase};
 use interpreter::plain::Plain;
 use interpreter::random::Random;
@@ -354,9 +355,24 @@ fn steps_by_class() {
         (on(0, block(STORE, 1, 0xFFFF)), 1),
         (branch(0), 1),
         (branch_link(0), 1),
+        // Rs holds 0.
+        (mul(0, 1, 2), 2),
+        (muls(0, 1, 0), 2),
+        (mlas(0, 1, 2, 0), 2),
+        (on(0, mul(0, 1, 2)), 1),
+        (on(NEVER, mla(0, 1, 2, 3)), 1),
         // Step 1 finds these stops itself.
         (SWI, 1),
-        (0xE000_0291, 1),
+        (SWP, 1),
+        (0xE080_0291, 1),
+        (0xE000_02B1, 1),
+        (mul(1, 1, 2), 1),
+        (mlas(1, 1, 2, 3), 1),
+        (mul(15, 1, 2), 1),
+        (mul(1, 15, 2), 1),
+        (mul(1, 2, 15), 1),
+        (multiply(0, 1, 2, 3, 15), 1),
+        (mla(1, 2, 3, 15), 1),
         (mov(0, by_register(1, Shift::Lsl, 15)), 1),
         (op(TST, 0, 0, by_register(1, Shift::Lsl, 3)), 1),
         (single(LOAD | UP, 0, 15, 0), 1),
@@ -373,12 +389,82 @@ fn steps_by_class() {
     }
 }
 
+/// A multiply lacks the steps above 1+m by what Rs holds now, whatever else the record holds.
+#[test]
+fn steps_of_a_multiply() {
+    let forms = [
+        mul(0, 1, 3),
+        muls(3, 1, 3),
+        mla(2, 1, 3, 4),
+        mlas(3, 4, 3, 3),
+        mul(1, 3, 3),
+        on(3, mla(0, 3, 3, 3)),
+    ];
+    for (m, rs) in (1..=16).flat_map(|m| ends(m).map(|rs| (m, rs))) {
+        for word in forms {
+            let answer = |step: u32| {
+                let mut core = Core {
+                    phase: Step(step),
+                    ix: Some(word),
+                    // Nothing is to be moved.
+                    address: 0xFFFF_FFFC,
+                    flags: 0x5,
+                    ..good()
+                };
+                core.r[3] = rs;
+                core_answer(&core, 64, 0)
+            };
+            for step in 1..=m + 1 {
+                assert_eq!(answer(step), 0, "{word:08X} by {rs:X}, step {step}");
+            }
+            for step in m + 2..=20 {
+                assert_eq!(answer(step), 11, "{word:08X} by {rs:X}, step {step}");
+            }
+            for step in [0, 1 << 16, u32::MAX - 1, u32::MAX] {
+                assert_eq!(answer(step), 11, "{word:08X} by {rs:X}, step {step}");
+            }
+        }
+    }
+}
+
+/// In the middle of a multiply Rs is set to another value: it ends by that one, and computes with
+/// it, where it still has the step.
+#[test]
+fn another_rs_in_the_middle() {
+    for word in [mla(0, 1, 3, 4), mla(3, 1, 3, 4)] {
+        let rd = (word >> 16 & 15) as usize;
+        for (m, rs) in (1..=16).flat_map(|m| ends(m).map(|rs| (m, rs))) {
+            for step in 2..=17 {
+                let mut core = Core {
+                    phase: Step(step),
+                    ix: Some(word),
+                    ..good()
+                };
+                (core.r[1], core.r[3], core.r[4]) = (5, rs, 6);
+                let mut lent = memory(64, &[]);
+                let left = u64::from((m + 2).saturating_sub(step));
+                let (answer, used, after) = core.clone().run(&mut lent, left);
+                if left == 0 {
+                    assert_eq!((answer, used, after), (11, 0, core));
+                    continue;
+                }
+                assert_eq!((answer, used, after.phase), (0, left, Step(1)));
+                assert_eq!(after.r[rd], rs.wrapping_mul(5).wrapping_add(6));
+                assert_eq!((after.retired, after.ix), (5, core.ir2));
+                let (_, _, before) = core.clone().run(&mut lent, left - 1);
+                assert_eq!((before.r, before.phase), (core.r, Step(m + 1)));
+            }
+        }
+    }
+}
+
 #[test]
 fn no_stop_is_held_in_a_later_step() {
     let words = [
         (mov(0, by_register(1, Shift::Lsl, 3)), 2),
         (ldr(0, 1, 0), 3),
         (block(STORE, 1, list(&[4, 5])), 3),
+        (mul(0, 1, 2), 2),
     ];
     for (word, step) in words {
         let core = Core {
@@ -442,6 +528,7 @@ fn any_core(random: &mut Random) -> Core {
             0 => Refill1,
             1 => Refill2,
             2 => Step(1),
+            3 => Step(2 + random.below(17)),
             _ => Step(2 + random.below(6)),
         },
         address: random.below(68),
@@ -470,7 +557,7 @@ fn any_core(random: &mut Random) -> Core {
 #[test]
 fn any_records() {
     let mut random = Random::new(7);
-    let (mut refused, mut accepted, mut later) = (0, 0, 0);
+    let (mut refused, mut accepted, mut later, mut multiplies) = (0, 0, 0, 0);
     for _ in 0..60_000 {
         let core = any_core(&mut random);
         let image: Vec<u32> = (0..16)
@@ -487,7 +574,11 @@ fn any_records() {
             continue;
         }
         accepted += 1;
-        later += u64::from(matches!(core.phase, Step(step) if step > 1));
+        if matches!(core.phase, Step(step) if step > 1) {
+            later += 1;
+            let instruction = core.ix.map(decode);
+            multiplies += u64::from(matches!(instruction, Some(Instruction::Multiply(_))));
+        }
         assert_eq!(after.cycles, core.cycles + used);
         assert_eq!(answer == 0, used == budget && after.stop == 0);
 
@@ -505,7 +596,7 @@ fn any_records() {
         assert_eq!((again, none, &same), (after.stop, 0, &after));
     }
     assert!(
-        refused > 5000 && accepted > 5000 && later > 1000,
-        "{refused} {accepted} {later}"
+        refused > 5000 && accepted > 5000 && later > 1000 && multiplies > 500,
+        "{refused} {accepted} {later} {multiplies}"
     );
 }

@@ -82,12 +82,49 @@ fn where_the_budget_ends() {
     }
 }
 
+/// The two loads take three cycles each, the two multiplies one more than m.
+#[test]
+fn lengths_of_multiplies() {
+    let mut seen = 0;
+    for case in cases() {
+        let Some((_, m)) = case.topic.split_once(", m ") else {
+            continue;
+        };
+        let m: u64 = m.parse().unwrap();
+        let (_, core) = case.outcome();
+        assert_eq!(core.unwrap().cycles, 2 + 6 + 2 * (1 + m), "{}", case.topic);
+        seen += 1;
+    }
+    assert_eq!(seen, 32);
+}
+
+/// Up to the last cycle the registers and flags are the old ones.
+#[test]
+fn budgets_within_multiplies() {
+    for m in [1, 2, 3, 7, 16] {
+        let core = |left| {
+            let name = format!("budget: multiply, {left} of {}", m + 1);
+            topic(&name).outcome().1.expect("an accepted start")
+        };
+        let first = core(1);
+        for left in 1..=m {
+            let core = core(left);
+            assert_eq!(core.phase, Phase::Step(left + 1));
+            assert_eq!((core.r, core.flags), (first.r, 0xF));
+        }
+        let last = core(m + 1);
+        assert_eq!(last.phase, Phase::Step(1));
+        assert_ne!(last.r, first.r);
+    }
+}
+
 /// A cycle on, the stop that was not yet found is.
 #[test]
 fn a_stop_not_yet_found() {
     for (name, stop) in [
         ("spent at a stop", 22),
         ("spent at a stop, by a load", 22),
+        ("spent at a stop, by a multiply", 22),
         ("spent past the end", 21),
     ] {
         let case = topic(&format!("budget: {name}"));

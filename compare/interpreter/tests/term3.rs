@@ -3,9 +3,9 @@
 mod common;
 
 use common::memory;
-use interpreter::arm::{decode, passes, Instruction};
+use interpreter::arm::{cycles_by_rs, decode, forbidden, passes, Instruction};
 use interpreter::assembler::*;
-use interpreter::durations::duration;
+use interpreter::durations::{duration, ends};
 use interpreter::memory as words;
 use interpreter::pipeline::{Core, Phase};
 use interpreter::plain::Plain;
@@ -35,13 +35,13 @@ impl History {
         let mut total = 2;
         while total <= limit {
             let word = words::fetch(&memory, plain.a);
-            let flags = plain.flags;
+            let (flags, r) = (plain.flags, plain.r);
             let stop = plain.step(&mut memory);
             if stop != 0 {
                 history.stop = Some(stop);
                 break;
             }
-            total += duration(word.expect("a word that ran"), flags);
+            total += duration(word.expect("a word that ran"), flags, &r);
             history.sums.push(total);
             history.states.push((plain.clone(), memory.clone()));
         }
@@ -193,12 +193,15 @@ fn follow(program: &Program, limit: u64, random: &mut Random) {
 /// What the random programs came to, so that the comparison isn't empty.
 #[derive(Default, Debug)]
 struct Seen {
-    classes: [u64; 4],
+    classes: [u64; 5],
     failed: u64,
     stops: [u64; 5],
     unstopped: u64,
     stored_counters: u64,
     long_blocks: u64,
+    /// Multiplies by their m, less 1, and programs that end at one that meets 23.
+    multiplies: [u64; 16],
+    forbidden_multiplies: u64,
 }
 
 impl Seen {
@@ -207,6 +210,13 @@ impl Seen {
         match history.stop {
             Some(stop) => self.stops[stop as usize - 21] += 1,
             None => self.unstopped += 1,
+        }
+        if history.stop == Some(23) {
+            let (plain, memory) = history.states.last().unwrap();
+            let instruction = decode(words::word(memory, plain.a));
+            assert!(forbidden(&instruction));
+            let multiplies = matches!(instruction, Instruction::Multiply(_));
+            self.forbidden_multiplies += u64::from(multiplies);
         }
         for pair in history.states.windows(2) {
             let ((plain, memory), (next, _)) = (&pair[0], &pair[1]);
@@ -223,6 +233,10 @@ impl Seen {
                     self.long_blocks += u64::from(it.list.count_ones() > 8);
                 }
                 Instruction::Branch(_) => self.classes[3] += 1,
+                Instruction::Multiply(it) => {
+                    self.classes[4] += 1;
+                    self.multiplies[cycles_by_rs(plain.r[it.rs]) as usize - 1] += 1;
+                }
                 Instruction::Other => panic!(),
             }
             self.stored_counters += u64::from(next.a != plain.a + 4);
@@ -253,6 +267,8 @@ fn random_programs() {
         seen.stored_counters > 2000 && seen.long_blocks > 100,
         "{seen:?}"
     );
+    assert!(seen.multiplies.iter().all(|&count| count > 50), "{seen:?}");
+    assert!(seen.forbidden_multiplies > 20, "{seen:?}");
 }
 
 fn image(words: &[u32], length: usize) -> Program {
@@ -276,6 +292,31 @@ fn the_farthest_boundary_is_19_away() {
     assert_eq!(history.sums[1], 22);
     assert_eq!(history.distance(3), 19);
     follow(&full, 40, &mut Random::new(4));
+}
+
+#[test]
+fn every_multiply_by_every_split() {
+    for (m, rs) in (1..=16).flat_map(|m| ends(m).map(|rs| (m, rs))) {
+        // Rd is Rs in the second, so that the third has another m.
+        let code = [mla(4, 1, 2, 3), muls(2, 1, 2), mlas(3, 1, 2, 3), SWI];
+        let mut program = image(&code, 64);
+        (program.r[1], program.r[2]) = (0x0101_0107, rs);
+        let limit = 70;
+        let history = History::of(&program, limit);
+        assert_eq!(history.sums[..3], [2, 3 + m, 4 + 2 * m].map(u64::from));
+        assert_eq!(history.distance(3), u64::from(m));
+        follow(&program, limit, &mut Random::new(11));
+        let end = history.stop_total().unwrap().1;
+        for first in 0..=end {
+            for second in 0..=end - first {
+                let mut split = Follower::new(&program, &history);
+                split.run(first);
+                split.run(second);
+                split.run(limit - first - second);
+                assert_eq!(split.answered, 22);
+            }
+        }
+    }
 }
 
 #[test]

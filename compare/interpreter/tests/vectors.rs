@@ -11,7 +11,7 @@ use std::collections::BTreeMap;
 fn the_format() {
     let cases = cases();
     assert!(cases.iter().all(Case::is_proper));
-    assert!((600..=800).contains(&cases.len()), "{}", cases.len());
+    assert!((600..=900).contains(&cases.len()), "{}", cases.len());
     for text in [input(&cases), expected(&cases)] {
         assert!(text.len() < 400_000, "{}", text.len());
         assert_eq!(text.lines().count(), cases.len());
@@ -60,6 +60,26 @@ fn every_answer_comes_up() {
     for answer in [0, 3, 11, 12, 21, 22, 23, 24, 25] {
         assert!(runs[&(0, answer)] > 1, "{answer}");
     }
+}
+
+/// What a topic says to stop with 22 or 23 does, and no multiply does that it doesn't say so of.
+#[test]
+fn the_topics() {
+    let (mut others, mut forbidden, mut multiplies) = (0, 0, 0);
+    for case in cases() {
+        let (_, answer, ..) = case.outcome();
+        if case.topic.starts_with("22 ") {
+            assert_eq!(answer, 22, "{}", case.topic);
+            others += 1;
+        } else if case.topic.starts_with("23 ") {
+            assert_eq!(answer, 23, "{}", case.topic);
+            forbidden += 1;
+        } else if case.topic.contains("multiplies") {
+            assert_eq!(answer, 0, "{}", case.topic);
+            multiplies += 1;
+        }
+    }
+    assert!(others > 20 && forbidden > 30 && multiplies > 30);
 }
 
 /// Where a start is accepted and run on its own memory, the pipeline comes to the same.

@@ -31,7 +31,8 @@ words =
     0xE8A90300 ∷  -- 18 STMIA R9!, {R8, R9}
     0x0A000000 ∷  -- 1C BEQ
     0xEB000001 ∷  -- 20 BL 2C
-    0xEF000024 ∷ 0xEF000028 ∷
+    0xE00A0293 ∷  -- 24 MUL R10, R3, R2
+    0xEF000028 ∷
     0xE59DF000 ∷  -- 2C LDR R15, [R13]
     0xEF000030 ∷ 0xEF000034 ∷ 0xEF000038 ∷ 0xEF00003C ∷
     0x44332211 ∷ 0 ∷ 0 ∷ 0x24 ∷ 0x11 ∷ 0x12 ∷ 0x18 ∷ 0 ∷ 0 ∷ 0 ∷ []
@@ -134,8 +135,13 @@ table =
     ∷ row Refill1 0x24 (at 0x34) (at 0x30) (at 0x2C) 0 0 0 9 []
     ∷ row Refill2 0x28 (at 0x24) (at 0x34) (at 0x2C) 0 0 0 9 []
     ∷ row Step1 0x2C (at 0x28) (at 0x24) (at 0x24) 0 0 0 10 []
+    -- multiply, with 12 in R2 and so m=3: all done in step 4
+    ∷ row (Later 0) 0x30 (at 0x2C) (at 0x28) (at 0x24) 0 0 0 10 []
+    ∷ row (Later 1) 0x30 (at 0x2C) (at 0x28) (at 0x24) 0 0 0 10 []
+    ∷ row (Later 2) 0x30 (at 0x2C) (at 0x28) (at 0x24) 0 0 0 10 []
+    ∷ row Step1 0x30 (at 0x2C) (at 0x28) (at 0x28) 0 0 0 11 (R 10 0x48 ∷ [])
     ∷ []
 
 pub record CycleTable : Type 0 where
   -- the address latch holds the next address to be moved; a latch that no step left needs is 0
-  pub cycles : rows 32 registers started ≡ table
+  pub cycles : rows 36 registers started ≡ table

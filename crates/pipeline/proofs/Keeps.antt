@@ -13,6 +13,7 @@ use Rattle.word.specs.declared.Processing.{Processing}
 use Rattle.word.specs.declared.Single.{Single}
 use Rattle.word.specs.declared.Block.{Block}
 use Rattle.word.specs.declared.Branch.{Branch}
+use Rattle.word.specs.declared.Multiply.{Multiply}
 use Rattle.word.specs.declared.Instruction.{Instruction}
 use Rattle.word.specs.Reader.{readOf}
 use Rattle.datapath.specs.Alu.{flagsOf, storesResult}
@@ -27,6 +28,9 @@ use Rattle.memory.proofs.Laws.{write-length}
 use Rattle.registers.specs.declared.Goes.the-variants.{Next, To}
 use Rattle.registers.specs.Registers.{put, Out, out, arrives}
 use Rattle.processing.specs.Processing.{flagsAfter, stored, processed, byRegister?}
+use Rattle.multiply.specs.Multiply as multiply
+use Rattle.multiply.specs.Multiply.{rsOf, multiplied}
+use Rattle.multiply.specs.InternalCycles.{mOf}
 use Rattle.transfer.specs.Block as block
 use Rattle.transfer.proofs.Lengths.{put-length, single-base-length, block-base-length, stored-to-alike}
 use Rattle.semantics.specs.Branch.{branched}
@@ -34,7 +38,7 @@ use Rattle.steps.specs.declared.Phase.{Phase}
 use Rattle.steps.specs.declared.Phase.the-variants.{Step1, Refill1, Refill2, Later}
 use Rattle.steps.specs.declared.After.the-variants.{More}
 use Rattle.steps.specs.declared.Latches.{Latches}
-use Rattle.steps.specs.Steps.{Own, own, last, still, firstStep, laterStep, loadLater, storeLater, loadStep, blockLoadLater, storeStep, blockStoreLater}
+use Rattle.steps.specs.Steps.{Own, own, last, still, firstStep, laterStep, loadLater, storeLater, loadStep, blockLoadLater, storeStep, blockStoreLater, multiplyLater}
 use Rattle.cycle.specs.Machine.{Machine, lent}
 use Rattle.cycle.specs.Cycle.{firstDue, laterOf, ownOf, cycle}
 use Rattle.pipeline.specs.Term3.{reach}
@@ -78,6 +82,14 @@ branched-keeps i g f a = (go (i .link) _, λ h. h)
     go true v = put-length g 14 v
     go false v = refl
 
+multiplied-keeps : (i : Multiply) (g : List ℕ) (f : ℕ) → KeepsOut g f (multiplied i g f)
+unfolding multiplied multiply.flagsAfter
+multiplied-keeps i g f = (put-length g (i .rd) _, go (i .s) _)
+  where
+    go : (b : Bool) (r : Computed) → f < 16 → pick b (flagsOf r) f < 16
+    go true r h = flags-lt r
+    go false r h = h
+
 -- ---- steps
 
 first-keeps : (i : Instruction) (g : List ℕ) (f pc : ℕ) (mem : Memory) → Keeps g f mem (firstStep i g f pc mem)
@@ -90,6 +102,7 @@ first-keeps (Instruction.Processing i) g f pc mem = go (byRegister? (i .operand)
 first-keeps (Instruction.Single i) g f pc mem = (refl, refl, λ h. h)
 first-keeps (Instruction.Block i) g f pc mem = (refl, refl, λ h. h)
 first-keeps (Instruction.Branch i) g f pc mem = let k = branched-keeps i g f (behind pc 8) in (k .0, refl, k .1)
+first-keeps (Instruction.Multiply i) g f pc mem = (refl, refl, λ h. h)
 first-keeps (Instruction.Other w) g f pc mem = (refl, refl, λ h. h)
 
 single-keeps : (i : Single) (k : ℕ) (g : List ℕ) (f : ℕ) (l : Latches) (mem : Memory) (b : Bool)
@@ -121,12 +134,21 @@ block-keeps i zero g f pc l mem false =
 block-keeps i (suc k) g f pc l mem true = load-step-keeps k (drop k (block.named (i .list))) g f l mem
 block-keeps i (suc k) g f pc l mem false = store-step-keeps (suc k) (drop (suc k) (block.named (i .list))) g f pc l mem
 
+multiply-keeps : (i : Multiply) (k : ℕ) (g : List ℕ) (f : ℕ) (mem : Memory) → Keeps g f mem (multiplyLater i k g f mem)
+unfolding multiplyLater
+multiply-keeps i k g f mem = go (ltb (suc k) (mOf (rsOf i g))) (multiplied-keeps i g f)
+  where
+    go : (b : Bool) → KeepsOut g f (multiplied i g f) → Keeps g f mem (pick b (own g (still f (More (Later (suc k)))) mem) (last (multiplied i g f) mem))
+    go true o = (refl, refl, λ h. h)
+    go false o = (o .0, refl, o .1)
+
 later-keeps : (i : Instruction) (k : ℕ) (g : List ℕ) (f pc : ℕ) (l : Latches) (mem : Memory) → Keeps g f mem (laterStep i k g f pc l mem)
 unfolding laterStep
 later-keeps (Instruction.Processing i) k g f pc l mem = let p = processed-keeps i g f pc in (p .0, refl, p .1)
 later-keeps (Instruction.Single i) k g f pc l mem = single-keeps i k g f l mem (i .l)
 later-keeps (Instruction.Block i) k g f pc l mem = block-keeps i k g f pc l mem (i .l)
 later-keeps (Instruction.Branch i) k g f pc l mem = (refl, refl, λ h. h)
+later-keeps (Instruction.Multiply i) k g f pc l mem = multiply-keeps i k g f mem
 later-keeps (Instruction.Other w) k g f pc l mem = (refl, refl, λ h. h)
 
 pub own-keeps : (ph : Phase) (m : Machine) → Keeps (m .registers) (m .control .flags) (lent m) (ownOf ph m)

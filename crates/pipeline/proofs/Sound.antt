@@ -13,6 +13,7 @@ use Rattle.bits.specs.Choice.{pick}
 use Rattle.bits.specs.Bits.{field}
 use Rattle.word.specs.declared.Single.{Single}
 use Rattle.word.specs.declared.Block.{Block}
+use Rattle.word.specs.declared.Multiply.{Multiply}
 use Rattle.word.specs.declared.Instruction.{Instruction}
 use Rattle.word.specs.Reader.{readOf, isOther}
 use Rattle.condition.specs.Condition.{passes}
@@ -27,6 +28,9 @@ use Rattle.registers.specs.declared.Goes.the-variants.{Next, To}
 use Rattle.registers.specs.State.{State, state}
 use Rattle.registers.specs.Registers.{arrives}
 use Rattle.processing.specs.Processing.{processed, byRegister?}
+use Rattle.multiply.specs.Multiply.{rsOf, multiplied}
+use Rattle.multiply.specs.InternalCycles.{mOf}
+use Rattle.multiply.proofs.InternalCycles.{m-bounds}
 use Rattle.transfer.specs.Block as block
 use Rattle.semantics.specs.Branch.{branched}
 use Rattle.semantics.specs.Duration.{ownSteps}
@@ -46,7 +50,7 @@ use Rattle.cycle.specs.declared.Pipe.{Pipe}
 use Rattle.cycle.specs.declared.Counts.{Counts}
 use Rattle.plain.specs.Numbers.{mostBytes}
 use Rattle.cycle.specs.Machine.{Machine, machine, lent, stateOf, pipe}
-use Rattle.steps.specs.Steps.{Own, ends, nextToMove, firstStep, laterStep, loadLater, storeLater, loadStep, blockLoadLater, storeStep, blockStoreLater}
+use Rattle.steps.specs.Steps.{Own, own, ends, still, last, nextToMove, firstStep, laterStep, loadLater, storeLater, loadStep, blockLoadLater, storeStep, blockStoreLater, multiplyLater}
 use Rattle.cycle.specs.Cycle.{cycle, firstDue, ownOf, fetches, pipeAfter, phaseAfter, retiredBy}
 use Rattle.cycle.specs.StopFound.{isStep1, stopFound}
 use Rattle.refusals.specs.Numbers.{leftToMove, stateLater, badWithin, badStep, badPhase}
@@ -54,11 +58,11 @@ use Rattle.steps.proofs.Both.{or-false}
 use Rattle.pipeline.proofs.Keeps.{own-keeps}
 use Rattle.runs.proofs.Instruction.{extra, own-steps, Quiet, quietly, names-some, drop-count}
 
--- what the test says of step j + 2 of an instruction
-pub record Mid (i : Instruction) (j address : ℕ) (board : Board) : Type 0 where
+-- what the test says of step j + 2 of an instruction, in the registers as they stand
+pub record Mid (i : Instruction) (j : ℕ) (g : List ℕ) (address : ℕ) (board : Board) : Type 0 where
   pub known : isOther i ≡ false
   pub allowed : (s : State) → eqb (ruleBroken i s) 0 ≡ true
-  pub has : j < extra i
+  pub has : j < extra i g
   pub inside : outside (span (leftToMove i j) address) board ≡ false
 
 -- a rule that is broken in no state
@@ -69,7 +73,7 @@ module _ (i : Instruction) (j : ℕ) (m : Machine) where
   abbrev own-count : ℕ
   own-count = ownSteps i (m .registers)
 
-  to-mid : badWithin i j m ≡ false → Mid i j (m .control .latches .address) (m .control .board)
+  to-mid : badWithin i j m ≡ false → Mid i j (m .registers) (m .control .latches .address) (m .control .board)
   unfolding badWithin
   to-mid e =
       let b = or-false (isOther i) e in
@@ -83,7 +87,7 @@ module _ (i : Instruction) (j : ℕ) (m : Machine) where
         inside = d .1;
       }
 
-  of-mid : Mid i j (m .control .latches .address) (m .control .board) → badWithin i j m ≡ false
+  of-mid : Mid i j (m .registers) (m .control .latches .address) (m .control .board) → badWithin i j m ≡ false
   unfolding badWithin
   of-mid k =
       let h : suc j < own-count = omega (arith, own-steps i (m .registers), k .has) in
@@ -94,7 +98,7 @@ abbrev Ok : Instruction → ℕ → Board → Own → After → Type 0
 Ok i f n o (More Step1) = Unit {0}
 Ok i f n o (More Refill1) = Unit {0}
 Ok i f n o (More Refill2) = Unit {0}
-Ok i f n o (More (Later j)) = Mid i j (o .step .latches .address) n × (o .step .flags ≡ f)
+Ok i f n o (More (Later j)) = Mid i j (o .registers) (o .step .latches .address) n × (o .step .flags ≡ f)
 Ok i f n o (Done k) = Unit {0}
 Ok i f n o (Jump w) = Unit {0}
 
@@ -123,15 +127,15 @@ module _ (n : Board) (short : n .size ≤ mostBytes) where
   rest-inside [] a e = refl
   rest-inside (y ∷ ys) a e = next-inside (length (y ∷ ys)) a e
 
-  single-has : (i : Single) → 0 < extra (Instruction.Single i)
-  single-has i = go (i .l)
+  single-has : (i : Single) (g : List ℕ) → 0 < extra (Instruction.Single i) g
+  single-has i g = go (i .l)
     where
       go : (b : Bool) → 0 < pick b 2 1
       go true = omega arith
       go false = omega arith
 
-  block-has : (i : Block) (j : ℕ) → j < block.count i → j < extra (Instruction.Block i)
-  block-has i j h = go (i .l)
+  block-has : (i : Block) (j : ℕ) (g : List ℕ) → j < block.count i → j < extra (Instruction.Block i) g
+  block-has i j g h = go (i .l)
     where
       go : (b : Bool) → j < pick b (suc (block.count i)) (block.count i)
       go true = omega arith
@@ -146,20 +150,22 @@ module _ (n : Board) (short : n .size ≤ mostBytes) where
       go true t = rw t (record { known = refl; allowed = in-every _ s (q .allowed); has = rw t (omega arith); inside = refl }, refl)
       go false t = rw t (ends-ok (Instruction.Processing i) (s .status) n _ (processed i (s .registers) (s .status) pc .goes))
   first-ok (Instruction.Single i) s pc b q e =
-      (record { known = refl; allowed = in-every _ s (q .allowed); has = single-has i; inside = rw (e, b) at (q .inside) }, refl)
+      (record { known = refl; allowed = in-every _ s (q .allowed); has = single-has i (s .registers); inside = rw (e, b) at (q .inside) }, refl)
   first-ok (Instruction.Block i) s pc b q e =
       let d = names-some i s (q .allowed) in
       let c : block.count i ≡ suc (length (d .1)) = ap length (d .2) in
       let z : block.count i - 0 ≡ block.count i = omega arith in
       let inside = rw (from-span (block.named (i .list)) (block.lowestAddress i (s .registers)), b) at (q .inside) in
-      (record { known = refl; allowed = in-every _ s (q .allowed); has = block-has i 0 (omega arith); inside = rw z inside }, refl)
+      (record { known = refl; allowed = in-every _ s (q .allowed); has = block-has i 0 (s .registers) (omega arith); inside = rw z inside }, refl)
   first-ok (Instruction.Branch i) s pc b q e = ends-ok (Instruction.Branch i) (s .status) n _ (branched i (s .registers) (s .status) (behind pc 8) .goes)
+  first-ok (Instruction.Multiply i) s pc b q e =
+      (record { known = refl; allowed = in-every _ s (q .allowed); has = m-bounds (rsOf i (s .registers)) .0; inside = refl }, refl)
   first-ok (Instruction.Other w) s pc b q e = tt
 
-  load-extra : (i : Block) → i .l ≡ true → extra (Instruction.Block i) ≡ suc (block.count i)
-  load-extra i e = ap (λ b. pick b (suc (block.count i)) (block.count i)) e
+  load-extra : (i : Block) (g : List ℕ) → i .l ≡ true → extra (Instruction.Block i) g ≡ suc (block.count i)
+  load-extra i g e = ap (λ b. pick b (suc (block.count i)) (block.count i)) e
 
-  load-ok : (i : Block) → i .l ≡ true → (k : ℕ) (g : List ℕ) (f : ℕ) (l : Latches) (mem : Memory) → Mid (Instruction.Block i) (suc k) (l .address) n
+  load-ok : (i : Block) → i .l ≡ true → (k : ℕ) (g : List ℕ) (f : ℕ) (l : Latches) (mem : Memory) → Mid (Instruction.Block i) (suc k) g (l .address) n
       → (r : List ℕ) → drop k (block.named (i .list)) ≡ r → OkOwn (Instruction.Block i) f n (loadStep k r g f l mem)
   unfolding loadStep
   load-ok i e k g f l mem m [] d = tt
@@ -171,13 +177,13 @@ module _ (n : Board) (short : n .size ≤ mostBytes) where
         record {
           known = refl;
           allowed = m .allowed;
-          has = omega (arith, c, load-extra i e);
+          has = omega (arith, c, load-extra i g e);
           inside = rw after (rest-inside ys (l .address) (rw now at (m .inside)));
         },
         refl,
       )
 
-  store-ok : (i : Block) (k : ℕ) (g : List ℕ) (f pc : ℕ) (l : Latches) (mem : Memory) → Mid (Instruction.Block i) k (l .address) n
+  store-ok : (i : Block) (k : ℕ) (g : List ℕ) (f pc : ℕ) (l : Latches) (mem : Memory) {h : List ℕ} → Mid (Instruction.Block i) k h (l .address) n
       → (r : List ℕ) → drop k (block.named (i .list)) ≡ r → OkOwn (Instruction.Block i) f n (storeStep k r g f pc l mem)
   unfolding storeStep
   store-ok i k g f pc l mem m [] d = tt
@@ -189,13 +195,13 @@ module _ (n : Board) (short : n .size ≤ mostBytes) where
         record {
           known = refl;
           allowed = m .allowed;
-          has = block-has i (suc k) (omega (arith, c));
+          has = block-has i (suc k) g (omega (arith, c));
           inside = rw after (next-inside (suc (length ys)) (l .address) (rw now at (m .inside)));
         },
         refl,
       )
 
-  block-load-ok : (i : Block) → i .l ≡ true → (k : ℕ) (g : List ℕ) (f : ℕ) (l : Latches) (mem : Memory) → Mid (Instruction.Block i) k (l .address) n
+  block-load-ok : (i : Block) → i .l ≡ true → (k : ℕ) (g : List ℕ) (f : ℕ) (l : Latches) (mem : Memory) → Mid (Instruction.Block i) k g (l .address) n
       → OkOwn (Instruction.Block i) f n (blockLoadLater i k g f l mem)
   unfolding blockLoadLater
   block-load-ok i e zero g f l mem m =
@@ -206,28 +212,39 @@ module _ (n : Board) (short : n .size ≤ mostBytes) where
         record {
           known = refl;
           allowed = m .allowed;
-          has = omega (arith, load-extra i e);
+          has = omega (arith, load-extra i g e);
           inside = rw (after, d .2) (rest-inside (d .1) (l .address) (rw now at (m .inside)));
         },
         refl,
       )
   block-load-ok i e (suc k) g f l mem m = load-ok i e k g f l mem m (drop k (block.named (i .list))) refl
 
-  block-store-ok : (i : Block) (k : ℕ) (g : List ℕ) (f pc : ℕ) (l : Latches) (mem : Memory) → Mid (Instruction.Block i) k (l .address) n
+  block-store-ok : (i : Block) (k : ℕ) (g : List ℕ) (f pc : ℕ) (l : Latches) (mem : Memory) → Mid (Instruction.Block i) k g (l .address) n
       → OkOwn (Instruction.Block i) f n (blockStoreLater i k g f pc l mem)
   unfolding blockStoreLater
   block-store-ok i zero g f pc l mem m = store-ok i 0 _ f pc l mem m (block.named (i .list)) refl
   block-store-ok i (suc k) g f pc l mem m = store-ok i (suc k) g f pc l mem m (drop (suc k) (block.named (i .list))) refl
 
-  single-load-ok : (i : Single) → i .l ≡ true → (k : ℕ) (g : List ℕ) (f : ℕ) (l : Latches) (mem : Memory) → Mid (Instruction.Single i) k (l .address) n
+  single-load-ok : (i : Single) → i .l ≡ true → (k : ℕ) (g : List ℕ) (f : ℕ) (l : Latches) (mem : Memory) → Mid (Instruction.Single i) k g (l .address) n
       → OkOwn (Instruction.Single i) f n (loadLater i k g f l mem)
   unfolding loadLater
   single-load-ok i e zero g f l mem m =
-      let x : extra (Instruction.Single i) ≡ 2 = ap (λ b. pick b 2 1) e in
+      let x : extra (Instruction.Single i) g ≡ 2 = ap (λ b. pick b 2 1) e in
       (record { known = refl; allowed = m .allowed; has = omega arith; inside = refl }, refl)
   single-load-ok i e (suc k) g f l mem m = ends-ok (Instruction.Single i) f n _ (arrives g f (i .rd) (l .datum) .goes)
 
-  later-ok : (i : Instruction) (k : ℕ) (g : List ℕ) (f pc : ℕ) (l : Latches) (mem : Memory) → Mid i k (l .address) n → OkOwn i f n (laterStep i k g f pc l mem)
+  -- steps 2 to m of a multiply leave the registers, and so m
+  multiply-ok : (i : Multiply) (k : ℕ) (g : List ℕ) (f : ℕ) (mem : Memory) {address : ℕ} → Mid (Instruction.Multiply i) k g address n
+      → OkOwn (Instruction.Multiply i) f n (multiplyLater i k g f mem)
+  unfolding multiplyLater
+  multiply-ok i k g f mem m = go (ltb (suc k) (mOf (rsOf i g))) refl
+    where
+      go : (b : Bool) → ltb (suc k) (mOf (rsOf i g)) ≡ b
+          → OkOwn (Instruction.Multiply i) f n (pick b (own g (still f (More (Later (suc k)))) mem) (last (multiplied i g f) mem))
+      go true e = (record { known = refl; allowed = m .allowed; has = ltb-true _ _ e; inside = refl }, refl)
+      go false e = ends-ok (Instruction.Multiply i) f n _ (multiplied i g f .goes)
+
+  later-ok : (i : Instruction) (k : ℕ) (g : List ℕ) (f pc : ℕ) (l : Latches) (mem : Memory) → Mid i k g (l .address) n → OkOwn i f n (laterStep i k g f pc l mem)
   unfolding laterStep
   later-ok (Instruction.Processing i) k g f pc l mem m = ends-ok (Instruction.Processing i) f n _ (processed i g f pc .goes)
   later-ok (Instruction.Single i) k g f pc l mem m = go (i .l) refl
@@ -241,22 +258,23 @@ module _ (n : Board) (short : n .size ≤ mostBytes) where
       go true e = block-load-ok i e k g f l mem m
       go false e = block-store-ok i k g f pc l mem m
   later-ok (Instruction.Branch i) k g f pc l mem m = tt
+  later-ok (Instruction.Multiply i) k g f pc l mem m = multiply-ok i k g f mem m
   later-ok (Instruction.Other w) k g f pc l mem m = tt
 
   -- what is fine for the instruction of the word in IX is fine for the record
   of-ok : (w : ℕ) (o : Own) (e : After) (p : Pipe) (f : ℕ) (m : Machine) → p .ix ≡ Word w → passes (field w 28 4) f ≡ true → Ok (readOf w) f n o e
       → m .control .pipe .ix ≡ pipeAfter e p .ix → m .control .flags ≡ o .step .flags → m .control .latches .address ≡ o .step .latches .address
-      → m .control .board ≡ n
+      → m .control .board ≡ n → m .registers ≡ o .registers
       → badPhase (phaseAfter e) m ≡ false
   unfolding due
-  of-ok w o (More Step1) p f m x ps ok i fl a b = refl
-  of-ok w o (More Refill1) p f m x ps ok i fl a b = refl
-  of-ok w o (More Refill2) p f m x ps ok i fl a b = refl
-  of-ok w o (More (Later j)) p f m x ps ok i fl a b =
+  of-ok w o (More Step1) p f m x ps ok i fl a b rg = refl
+  of-ok w o (More Refill1) p f m x ps ok i fl a b rg = refl
+  of-ok w o (More Refill2) p f m x ps ok i fl a b rg = refl
+  of-ok w o (More (Later j)) p f m x ps ok i fl a b rg =
       let d : due (m .control .pipe .ix) (m .control .flags) ≡ executes (readOf w) = rw (i ∙ x, fl ∙ ok .1, ps) in
-      ap (λ (y : Due). badStep y j m) d ∙ of-mid (readOf w) j m (rw (a, b) (ok .0))
-  of-ok w o (Done k) p f m x ps ok i fl a b = refl
-  of-ok w o (Jump v) p f m x ps ok i fl a b = refl
+      ap (λ (y : Due). badStep y j m) d ∙ of-mid (readOf w) j m (rw (a, b, rg) (ok .0))
+  of-ok w o (Done k) p f m x ps ok i fl a b rg = refl
+  of-ok w o (Jump v) p f m x ps ok i fl a b rg = refl
 
   -- the phase that a cycle leaves, of a core in its parts
   module _ (g : List ℕ) (f pc : ℕ) (ir1 ir2 : Fetched) (l : Latches) (cs : Counts) (q : ℕ) (mem : List ℕ) where
@@ -269,12 +287,13 @@ module _ (n : Board) (short : n .size ≤ mostBytes) where
     own-fine : (ph : Phase) (x : Fetched) → badPhase ph (core ph x) ≡ false → pick (isStep1 ph) (stopFor x (stateOf (core ph x))) 0 ≡ 0 → pc < counters → (m : Machine)
         → m .control .pipe .ix ≡ pipeAfter (stepOf ph x .after) (fetches ph (core ph x .control .pipe) (lent (core ph x))) .ix
         → m .control .flags ≡ stepOf ph x .flags → m .control .latches .address ≡ stepOf ph x .latches .address → m .control .board ≡ n
+        → m .registers ≡ ownOf ph (core ph x) .registers
         → badPhase (phaseAfter (stepOf ph x .after)) m ≡ false
     unfolding ownOf due stopFor
-    own-fine Refill1 x b z r m i fl ad bd = refl
-    own-fine Refill2 x b z r m i fl ad bd = refl
-    own-fine Step1 Blank b z r m i fl ad bd = refl
-    own-fine Step1 (Word w) b z r m i fl ad bd = go (passes (field w 28 4) f) refl z i fl ad
+    own-fine Refill1 x b z r m i fl ad bd rg = refl
+    own-fine Refill2 x b z r m i fl ad bd rg = refl
+    own-fine Step1 Blank b z r m i fl ad bd rg = refl
+    own-fine Step1 (Word w) b z r m i fl ad bd rg = go (passes (field w 28 4) f) refl z i fl ad rg
       where
         s : State
         s = stateOf (core Step1 (Word w))
@@ -285,19 +304,20 @@ module _ (n : Board) (short : n .size ≤ mostBytes) where
         go : (t : Bool) → passes (field w 28 4) f ≡ t → stopDue (pick t (executes (readOf w)) skipped) s ≡ 0
             → m .control .pipe .ix ≡ pipeAfter (o t .step .after) (fetches Step1 (core Step1 (Word w) .control .pipe) (lent (core Step1 (Word w)))) .ix
             → m .control .flags ≡ o t .step .flags → m .control .latches .address ≡ o t .step .latches .address
+            → m .registers ≡ o t .registers
             → badPhase (phaseAfter (o t .step .after)) m ≡ false
-        go true ps z i fl ad =
+        go true ps z i fl ad rg =
             of-ok w (o true) (o true .step .after) (fetches Step1 (core Step1 (Word w) .control .pipe) (lent (core Step1 (Word w)))) f m refl ps
-            (first-ok (readOf w) s pc refl (quietly (readOf w) s z) (ahead-behind pc r)) i fl ad bd
-        go false ps z i fl ad = refl
-    own-fine (Later k) Blank b z r m i fl ad bd = refl
-    own-fine (Later k) (Word w) b z r m i fl ad bd = go (passes (field w 28 4) f) refl b
+            (first-ok (readOf w) s pc refl (quietly (readOf w) s z) (ahead-behind pc r)) i fl ad bd rg
+        go false ps z i fl ad rg = refl
+    own-fine (Later k) Blank b z r m i fl ad bd rg = refl
+    own-fine (Later k) (Word w) b z r m i fl ad bd rg = go (passes (field w 28 4) f) refl b
       where
         go : (t : Bool) → passes (field w 28 4) f ≡ t → badStep (pick t (executes (readOf w)) skipped) k (core (Later k) (Word w)) ≡ false
             → badPhase (phaseAfter (stepOf (Later k) (Word w) .after)) m ≡ false
         go true ps b =
             of-ok w (ownOf (Later k) (core (Later k) (Word w))) (stepOf (Later k) (Word w) .after) (core (Later k) (Word w) .control .pipe) f m refl ps
-            (later-ok (readOf w) k g f pc l _ (to-mid (readOf w) k (core (Later k) (Word w)) b)) i fl ad bd
+            (later-ok (readOf w) k g f pc l _ (to-mid (readOf w) k (core (Later k) (Word w)) b)) i fl ad bd rg
         go false ps b = absurd (false≢true (sym b))
 
 -- ---- the counter and the counts
@@ -346,5 +366,5 @@ cycle-sound m s z =
       flags = own-keeps (c .phase) m .2 (s .flags);
       counts = retired-counts e (c .counts .retired) (c .counts .cycles) (s .counts);
       fine = own-fine (c .board) (s .short) (m .registers) (c .flags) (c .pipe .pc) (c .pipe .ir1) (c .pipe .ir2) (c .latches) (c .counts) (c .stop) (m .memory) (c .phase) (c .pipe .ix)
-          (s .fine) z (s .range) (cycle m) refl refl refl refl;
+          (s .fine) z (s .range) (cycle m) refl refl refl refl refl;
     }

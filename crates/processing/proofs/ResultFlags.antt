@@ -11,24 +11,14 @@ use lib.Seq.{getD-set-same}
 use borrow.Author.Tests.{lt-ltb, le-ltb, ltb-false}
 use Rattle.bits.specs.Choice.{pick}
 use Rattle.bits.specs.Bits.{bit, field, num}
-use Rattle.bits.proofs.Fields.{num-bit}
 use Rattle.word.specs.declared.Processing.{Processing}
 use Rattle.datapath.specs.declared.Computed.{Computed}
 use Rattle.datapath.specs.Alu.{storesResult, operate, flagsOf}
-use Rattle.datapath.proofs.Flags.{num-le}
+use Rattle.datapath.proofs.Flags.{sign-of, zero-of}
 use Rattle.registers.specs.declared.Goes.the-variants.{Next, To}
 use Rattle.registers.specs.Registers.{out, arrives}
 use Rattle.processing.specs.Processing.{operandOf, computedOf, flagsAfter, stored, processed}
 use Rattle.processing.specs.ResultFlags.{ResultFlags, by}
-
--- N and Z of the flags of a result
-sign-of : (r : Computed) → r .value < 2 ^ 32 → flagsOf r / 8 ≡ r .value / 2 ^ 31
-unfolding flagsOf field
-sign-of r h = omega (arith, num-bit (r .value) 31, num-le (eqb (r .value) 0), num-le (r .carry), num-le (r .overflow))
-
-zero-of : (r : Computed) → flagsOf r / 4 % 2 ≡ num (eqb (r .value) 0)
-unfolding flagsOf
-zero-of r = omega (arith, num-le (bit (r .value) 31), num-le (eqb (r .value) 0), num-le (r .carry), num-le (r .overflow))
 
 module _ (i : Processing) (g : List ℕ) (f : ℕ) (r : Computed) where
   -- the flags, whether a result is stored or not, and where

@@ -12,6 +12,7 @@ r0After (Instruction.Processing i) = getD (processed i (replicate 15 0) 6 (reads
 r0After (Instruction.Single i) = 0
 r0After (Instruction.Block i) = 0
 r0After (Instruction.Branch i) = 0
+r0After (Instruction.Multiply i) = 0
 r0After (Instruction.Other word) = 0
 
 abbrev pub leaves : ℕ → ℕ

@@ -25,6 +25,7 @@ all (Instruction.Processing i) = processing i (i .operand)
 all (Instruction.Single i) = single i (i .offset)
 all (Instruction.Block i) = refl
 all (Instruction.Branch i) = refl
+all (Instruction.Multiply i) = refl
 all (Instruction.Other word) = refl
 
 pub laid-out : Layout

@@ -64,6 +64,7 @@ record-back (Instruction.Processing i) = simp (bit-num, operand-back (i .operand
 record-back (Instruction.Single i) = simp (bit-num, operand-back (i .offset))
 record-back (Instruction.Block i) = simp bit-num
 record-back (Instruction.Branch i) = simp bit-num
+record-back (Instruction.Multiply i) = simp bit-num
 record-back (Instruction.Other word) = refl
 
 length-of : (i : Instruction) → length (recordWords i) ≡ 16
@@ -72,6 +73,7 @@ length-of (Instruction.Processing i) = refl
 length-of (Instruction.Single i) = refl
 length-of (Instruction.Block i) = refl
 length-of (Instruction.Branch i) = refl
+length-of (Instruction.Multiply i) = refl
 length-of (Instruction.Other word) = refl
 
 pub record-words-back : (words : List ℕ) → length words ≡ 16 → standsForRecord words ≡ true → recordWords (recordOf words) ≡ words

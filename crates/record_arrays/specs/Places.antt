@@ -26,6 +26,7 @@ pub data RecordName : Type 0 where
   record-b : RecordName
   record-s : RecordName
   record-w : RecordName
+  record-accumulate : RecordName
   record-l : RecordName
   record-link : RecordName
   record-rn : RecordName
@@ -50,6 +51,7 @@ recordPlace record-u = 4
 recordPlace record-b = 5
 recordPlace record-s = 5
 recordPlace record-w = 6
+recordPlace record-accumulate = 6
 recordPlace record-l = 7
 recordPlace record-link = 7
 recordPlace record-rn = 8
@@ -71,6 +73,7 @@ pub data Class : Type 0 where
   class-block : Class
   class-branch : Class
   class-other : Class
+  class-multiply : Class
 
 abbrev pub classNumber : Class → ℕ
 classNumber class-processing = 0
@@ -78,6 +81,7 @@ classNumber class-single = 1
 classNumber class-block = 2
 classNumber class-branch = 3
 classNumber class-other = 4
+classNumber class-multiply = 5
 
 pub data Kind : Type 0 where
   kind-constant : Kind
@@ -123,6 +127,9 @@ fields (Instruction.Block i) =
     ∷ is record-s (num (i .s)) ∷ is record-w (num (i .w)) ∷ is record-l (num (i .l)) ∷ is record-rn (i .rn) ∷ is record-list (i .list) ∷ []
 fields (Instruction.Branch i) =
     is record-class (classNumber class-branch) ∷ is record-condition (i .condition) ∷ is record-link (num (i .link)) ∷ is record-offset (i .offset) ∷ []
+fields (Instruction.Multiply i) =
+    is record-class (classNumber class-multiply) ∷ is record-condition (i .condition) ∷ is record-accumulate (num (i .accumulate)) ∷ is record-s (num (i .s))
+    ∷ is record-rd (i .rd) ∷ is record-rn (i .rn) ∷ is record-rs (i .rs) ∷ is record-rm (i .rm) ∷ []
 fields (Instruction.Other word) = is record-class (classNumber class-other) ∷ is record-word word ∷ []
 
 -- an array with each field put at its name's place

@@ -1,5 +1,6 @@
--- A word's record as an array of 16 words, and back: class, condition, operation, P, U, B or S, W, L or link, Rn, Rd,
--- the operand's kind and three fields, then the list, offset or word, and a 0. What a class lacks is 0.
+-- A word's record as an array of 16 words, and back: class, condition, operation, P, U, B or S, W or accumulate, L or link, Rn, Rd,
+-- the operand's kind and three fields (a multiply's Rm and Rs stand there without a kind), then the list, offset or word, and a 0. What a class
+-- lacks is 0.
 use Prim.Native.Nat.{ℕ, zero, suc}
 use mathlib.Core.Bool.{Bool, true, _&&_}
 use mathlib.Core.List.{List, [], _∷_}
@@ -12,6 +13,7 @@ use Rattle.word.specs.declared.Processing.{Processing}
 use Rattle.word.specs.declared.Single.{Single}
 use Rattle.word.specs.declared.Block.{Block}
 use Rattle.word.specs.declared.Branch.{Branch}
+use Rattle.word.specs.declared.Multiply.{Multiply}
 use Rattle.word.specs.declared.Instruction.{Instruction}
 use Rattle.record_arrays.specs.declared.Quad.{Quad}
 use Rattle.arrays.specs.Words.{at}
@@ -47,11 +49,16 @@ abbrev pub branchWords : Branch → List ℕ
 branchWords i =
     3 ∷ i .condition ∷ 0 ∷ 0 ∷ 0 ∷ 0 ∷ 0 ∷ num (i .link) ∷ 0 ∷ 0 ∷ 0 ∷ 0 ∷ 0 ∷ 0 ∷ i .offset ∷ 0 ∷ []
 
+abbrev pub multiplyWords : Multiply → List ℕ
+multiplyWords i =
+    5 ∷ i .condition ∷ 0 ∷ 0 ∷ 0 ∷ num (i .s) ∷ num (i .accumulate) ∷ 0 ∷ i .rn ∷ i .rd ∷ 0 ∷ i .rm ∷ 0 ∷ i .rs ∷ 0 ∷ 0 ∷ []
+
 unfoldable pub recordWords : Instruction → List ℕ
 recordWords (Instruction.Processing i) = processingWords i (quadOf (i .operand))
 recordWords (Instruction.Single i) = singleWords i (quadOf (i .offset))
 recordWords (Instruction.Block i) = blockWords i
 recordWords (Instruction.Branch i) = branchWords i
+recordWords (Instruction.Multiply i) = multiplyWords i
 recordWords (Instruction.Other word) = 4 ∷ 0 ∷ 0 ∷ 0 ∷ 0 ∷ 0 ∷ 0 ∷ 0 ∷ 0 ∷ 0 ∷ 0 ∷ 0 ∷ 0 ∷ 0 ∷ word ∷ 0 ∷ []
 
 abbrev pub isOne : List ℕ → ℕ → Bool
@@ -98,12 +105,24 @@ blockOf words = record {
 abbrev pub branchOf : List ℕ → Branch
 branchOf words = record { condition = at words 1; link = isOne words 7; offset = at words 14 }
 
+abbrev pub multiplyOf : List ℕ → Multiply
+multiplyOf words = record {
+  condition = at words 1;
+  accumulate = isOne words 6;
+  s = isOne words 5;
+  rd = at words 9;
+  rn = at words 8;
+  rs = at words 13;
+  rm = at words 11;
+}
+
 unfoldable pub recordOf : List ℕ → Instruction
 recordOf words =
     pick (eqb (at words 0) 0) (Instruction.Processing (processingOf words))
     (pick (eqb (at words 0) 1) (Instruction.Single (singleOf words))
     (pick (eqb (at words 0) 2) (Instruction.Block (blockOf words))
-    (pick (eqb (at words 0) 3) (Instruction.Branch (branchOf words)) (Instruction.Other (at words 14)))))
+    (pick (eqb (at words 0) 3) (Instruction.Branch (branchOf words))
+    (pick (eqb (at words 0) 5) (Instruction.Multiply (multiplyOf words)) (Instruction.Other (at words 14))))))
 
 -- the first n words of two arrays are the same
 unfoldable pub same : ℕ → List ℕ → List ℕ → Bool

@@ -1,12 +1,13 @@
 // From a record to its array.
 ghost use mathlib.Core.Path.{_≡_};
-ghost use Rattle.record_arrays.specs.RecordArray.{quadOf, processingWords, singleWords, blockWords, branchWords, recordWords};
+ghost use Rattle.record_arrays.specs.RecordArray.{quadOf, processingWords, singleWords, blockWords, branchWords, multiplyWords, recordWords};
 use crate::RecordArray;
 use crate::operand::quad_of;
 use bits::number;
 use word::Block;
 use word::Branch;
 use word::Instruction;
+use word::Multiply;
 use word::Processing;
 use word::Single;
 
@@ -107,6 +108,29 @@ fn branch_words(i: Branch) -> RecordArray
     ]
 }
 
+fn multiply_words(i: Multiply) -> RecordArray
+    ensures { λ r. ⌜ r ≡ multiplyWords i ⌝ }
+{
+    [
+        5,
+        i.condition,
+        0,
+        0,
+        0,
+        number(i.s),
+        number(i.accumulate),
+        0,
+        i.rn,
+        i.rd,
+        0,
+        i.rm,
+        0,
+        i.rs,
+        0,
+        0,
+    ]
+}
+
 pub fn record_words(i: Instruction) -> RecordArray
     ensures { λ r. ⌜ r ≡ recordWords i ⌝ }
 {
@@ -115,6 +139,7 @@ pub fn record_words(i: Instruction) -> RecordArray
         Instruction::Single(s) => single_words(s),
         Instruction::Block(b) => block_words(b),
         Instruction::Branch(b) => branch_words(b),
+        Instruction::Multiply(m) => multiply_words(m),
         Instruction::Other(word) => [4, 0, 0, 0, 0, 0, 0, 0, 0, 0, 0, 0, 0, 0, word, 0],
     }
 }

@@ -1,11 +1,12 @@
 // From an array to its record.
 ghost use mathlib.Core.Path.{_≡_};
-ghost use Rattle.record_arrays.specs.RecordArray.{processingOf, singleOf, blockOf, branchOf, recordOf};
+ghost use Rattle.record_arrays.specs.RecordArray.{processingOf, singleOf, blockOf, branchOf, multiplyOf, recordOf};
 use crate::RecordArray;
 use crate::operand::operand_at;
 use word::Block;
 use word::Branch;
 use word::Instruction;
+use word::Multiply;
 use word::Processing;
 use word::Single;
 
@@ -65,6 +66,20 @@ fn branch_of(words: &RecordArray) -> Branch
     }
 }
 
+fn multiply_of(words: &RecordArray) -> Multiply
+    ensures { λ r. ⌜ r ≡ multiplyOf (now (words .entry)) ⌝ }
+{
+    Multiply {
+        condition: words[1],
+        accumulate: words[6] == 1,
+        s: words[5] == 1,
+        rd: words[9],
+        rn: words[8],
+        rs: words[13],
+        rm: words[11],
+    }
+}
+
 pub fn record_of(words: &RecordArray) -> Instruction
     ensures { λ r. ⌜ r ≡ recordOf (now (words .entry)) ⌝ }
 {
@@ -80,6 +95,9 @@ pub fn record_of(words: &RecordArray) -> Instruction
     }
     if class == 3 {
         return Instruction::Branch(branch_of(words));
+    }
+    if class == 5 {
+        return Instruction::Multiply(multiply_of(words));
     }
     Instruction::Other(words[14])
 }

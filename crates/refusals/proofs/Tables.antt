@@ -4,6 +4,8 @@ use mathlib.Core.Path.{refl}
 use Rattle.bits.specs.Bits as bits
 use Rattle.word.specs.Reader as reader
 use Rattle.condition.specs.Condition as condition
+use Rattle.registers.specs.Registers.{register}
+use Rattle.multiply.specs.InternalCycles.{firstAbove, mOf}
 use Rattle.transfer.specs.Block as block
 use Rattle.memory.specs.Memory.{limit}
 use Rattle.semantics.specs.Duration as duration
@@ -13,7 +15,7 @@ use Rattle.refusals.specs.Numbers.{badWithin, bad, refusal}
 use Rattle.refusals.specs.Tables.{BadRecords, RefusalOrder, Tables}
 
 bad-records : BadRecords
-unfolding bits.field bits.bit reader.readOf condition.passes block.namedFrom block.named duration.ownSteps rules.ruleBroken limit due badWithin bad
+unfolding bits.field bits.bit reader.readOf condition.passes register firstAbove mOf block.namedFrom block.named duration.ownSteps rules.ruleBroken limit due badWithin bad
 bad-records = record {
   length = (refl, refl);
   counter = (refl, refl);
@@ -31,6 +33,9 @@ bad-records = record {
   store-steps = (refl, refl);
   block-load-steps = (refl, refl);
   block-store-steps = (refl, refl);
+  multiply-steps-1 = (refl, refl);
+  multiply-steps-2 = (refl, refl);
+  multiply-steps-4 = (refl, refl);
   load-outside = (refl, refl);
   load-done = (refl, refl);
   store-outside = (refl, refl);
@@ -38,6 +43,7 @@ bad-records = record {
   later-outside = (refl, refl);
   last-outside = (refl, refl);
   block-done = (refl, refl);
+  multiply-none = (refl, refl);
 }
 
 refusal-order : RefusalOrder

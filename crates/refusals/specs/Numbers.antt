@@ -25,6 +25,7 @@ leftToMove (Instruction.Processing i) k = 0
 leftToMove (Instruction.Single i) k = 1 - k
 leftToMove (Instruction.Block i) k = count i - k
 leftToMove (Instruction.Branch i) k = 0
+leftToMove (Instruction.Multiply i) k = 0
 leftToMove (Instruction.Other word) k = 0
 
 -- the state in which the instruction under way stands, in a step from 2 on: A is PC-12

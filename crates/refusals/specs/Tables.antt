@@ -1,5 +1,5 @@
 -- Tables of records: which are bad (11), and what a run refuses with first.
-use Prim.Native.Nat.{ℕ}
+use Prim.Native.Nat.{ℕ, _+_, _*_}
 use mathlib.Core.Path.{_≡_}
 use mathlib.Core.Bool.{true, false}
 use mathlib.Core.List.{List, [], _∷_, map}
@@ -44,7 +44,7 @@ under ix ph address stop = record {
   board = record { size = 16 };
 }
 
--- words with later steps: a shift by register, a load, a store, and blocks of R1, R2 and R8
+-- words with later steps: a shift by register, a load, a store, blocks of R1, R2 and R8, and MUL R10, R3 by R0, R2 and R5, which hold 0, 3 and 40
 abbrev pub shift : Fetched
 shift = Word 0xE1A01312
 
@@ -59,6 +59,9 @@ blockLoad = Word 0xE8970106
 
 abbrev pub blockStore : Fetched
 blockStore = Word 0xE8870106
+
+abbrev pub multiplyBy : ℕ → Fetched
+multiplyBy rs = Word (0xE00A0093 + 256 * rs)
 
 -- the clauses of 11; an Other has one step, so that one that meets 22 in step 2 lacks that step too
 pub record BadRecords : Type 0 where
@@ -77,10 +80,11 @@ pub record BadRecords : Type 0 where
   -- or held away from step 1
   pub held : Tells (λ ph. under shift ph 0 22) (Refill1 ∷ Refill2 ∷ Later 0 ∷ []) (Step1 ∷ [])
   pub free : Tells (λ ph. under shift ph 0 0) [] (Refill1 ∷ Refill2 ∷ Later 0 ∷ Step1 ∷ [])
-  -- step 2 where IX is blank, meets 22, meets 23 (Rs = 15; a byte with Rd = 15; block with S), or fails its condition; refills aren't steps
+  -- step 2 where IX is blank, meets 22, meets 23 (Rs = 15; a byte with Rd = 15; block with S; multiply by R15), or fails its condition; refills aren't
+  -- steps
   pub word :
-      Tells (λ ix. under ix (Later 0) 0 0) (Blank ∷ Word 0xEF000000 ∷ Word 0xE1A01F12 ∷ Word 0xE5D5F000 ∷ Word 0xE8D70106 ∷ Word 0x01A01312 ∷ [])
-      (shift ∷ load ∷ store ∷ blockLoad ∷ blockStore ∷ [])
+      Tells (λ ix. under ix (Later 0) 0 0) (Blank ∷ Word 0xEF000000 ∷ Word 0xE1A01F12 ∷ Word 0xE5D5F000 ∷ Word 0xE8D70106 ∷ multiplyBy 15 ∷ Word 0x01A01312 ∷ [])
+      (shift ∷ load ∷ store ∷ blockLoad ∷ blockStore ∷ multiplyBy 0 ∷ [])
   pub refill : Tells (λ ix. under ix Refill1 0 0) [] (Blank ∷ Word 0xEF000000 ∷ [])
   -- or lacks that step
   pub one-step : Tells (λ ix. under ix (Later 0) 0 0) (Word 0xE1A01002 ∷ Word 0xEA000000 ∷ []) []
@@ -89,6 +93,10 @@ pub record BadRecords : Type 0 where
   pub store-steps : Tells (λ k. under store (Later k) 0 0) (1 ∷ []) (0 ∷ [])
   pub block-load-steps : Tells (λ k. under blockLoad (Later k) 0 0) (4 ∷ []) (0 ∷ 1 ∷ 2 ∷ 3 ∷ [])
   pub block-store-steps : Tells (λ k. under blockStore (Later k) 0 0) (3 ∷ []) (0 ∷ 1 ∷ 2 ∷ [])
+  -- a multiply's steps are 1+m by the value that Rs holds
+  pub multiply-steps-1 : Tells (λ k. under (multiplyBy 0) (Later k) 0 0) (1 ∷ []) (0 ∷ [])
+  pub multiply-steps-2 : Tells (λ k. under (multiplyBy 2) (Later k) 0 0) (2 ∷ []) (0 ∷ 1 ∷ [])
+  pub multiply-steps-4 : Tells (λ k. under (multiplyBy 5) (Later k) 0 0) (4 ∷ []) (0 ∷ 1 ∷ 2 ∷ 3 ∷ [])
   -- a word still to be moved outside memory; where none is left, any address
   pub load-outside : Tells (λ a. under load (Later 0) a 0) (16 ∷ []) (15 ∷ [])
   pub load-done : Tells (λ a. under load (Later 1) a 0) [] (16 ∷ [])
@@ -97,6 +105,7 @@ pub record BadRecords : Type 0 where
   pub later-outside : Tells (λ a. under blockLoad (Later 1) a 0) (12 ∷ []) (8 ∷ [])
   pub last-outside : Tells (λ a. under blockStore (Later 2) a 0) (16 ∷ []) (12 ∷ [])
   pub block-done : Tells (λ a. under blockLoad (Later 3) a 0) [] (16 ∷ [])
+  pub multiply-none : Tells (λ a. under (multiplyBy 5) (Later 0) a 0) [] (16 ∷ [])
 
 -- ---- refusals of a run
 

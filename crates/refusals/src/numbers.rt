@@ -50,6 +50,7 @@ fn left_to_move(i: Instruction, k: u32) -> u32
         Instruction::Single(_) => left(1, k),
         Instruction::Block(b) => left(count(b.list), k),
         Instruction::Branch(_) => 0,
+        Instruction::Multiply(_) => 0,
         Instruction::Other(_) => 0,
     }
 }

@@ -8,13 +8,14 @@ use mathlib.Core.Logic.{_≢_}
 use native.Mathlib.Omega.{arith}
 use lib.ListN.{length, getD, drop}
 use lib.Dec.{eqb}
-use borrow.Author.Tests.{leb-false, not-false}
+use borrow.Author.Tests.{leb-false, not-false, lt-ltb, le-ltb}
 use Rattle.bits.specs.Choice.{pick}
 use Rattle.bits.specs.Bits.{field}
 use Rattle.word.specs.declared.Processing.{Processing}
 use Rattle.word.specs.declared.Single.{Single}
 use Rattle.word.specs.declared.Block.{Block}
 use Rattle.word.specs.declared.Branch.{Branch}
+use Rattle.word.specs.declared.Multiply.{Multiply}
 use Rattle.word.specs.declared.Instruction.{Instruction}
 use Rattle.word.specs.Reader.{readOf, isOther}
 use Rattle.condition.specs.Condition.{passes}
@@ -27,6 +28,9 @@ use Rattle.registers.specs.declared.Goes.the-variants.{Next}
 use Rattle.registers.specs.State.{State, state}
 use Rattle.registers.specs.Registers.{out, put, arrives}
 use Rattle.processing.specs.Processing.{processed, byRegister?}
+use Rattle.multiply.specs.Multiply.{rsOf, multiplied}
+use Rattle.multiply.specs.InternalCycles.{mOf}
+use Rattle.multiply.proofs.InternalCycles.{m-bounds}
 use Rattle.transfer.specs.Single as single
 use Rattle.transfer.specs.Block as block
 use Rattle.transfer.proofs.Lengths.{stored-to-alike}
@@ -43,7 +47,7 @@ use Rattle.steps.specs.declared.Phase.the-variants.{Step1, Later}
 use Rattle.steps.specs.declared.Latches.{Latches}
 use Rattle.plain.specs.Numbers.{mostBytes}
 use Rattle.cycle.specs.Machine.{Machine, pipe, counts}
-use Rattle.steps.specs.Steps.{latches, own, on, idle, firstStep, laterStep, loadLater, storeLater, loadStep, blockLoadLater, storeStep, blockStoreLater, nextToMove}
+use Rattle.steps.specs.Steps.{latches, own, on, idle, firstStep, laterStep, loadLater, storeLater, loadStep, blockLoadLater, storeStep, blockStoreLater, multiplyLater, nextToMove}
 use Rattle.cycle.specs.Cycle.{cycle, ownOf}
 use Rattle.runs.specs.Boundary.{boundary, lead}
 use Rattle.steps.proofs.Both.{or-false}
@@ -54,15 +58,16 @@ use Rattle.runs.proofs.Flight.{Flight, climb, more, inFlight, at, plain
 abbrev pub begin : Fetched → State → ℕ → ℕ → Machine
 begin x s k t = at (s .registers) (s .status) (pipe (ahead (s .a) 8) (wordAt (s .memory) (ahead (s .a) 4)) x x) Step1 idle (counts t k) (s .memory)
 
--- the steps after the first
-abbrev pub extra : Instruction → ℕ
-extra (Instruction.Processing i) = pick (byRegister? (i .operand)) 1 0
-extra (Instruction.Single i) = pick (i .l) 2 1
-extra (Instruction.Block i) = pick (i .l) (suc (block.count i)) (block.count i)
-extra (Instruction.Branch i) = 0
-extra (Instruction.Other w) = 0
+-- the steps after the first, by the registers before it
+abbrev pub extra : Instruction → List ℕ → ℕ
+extra (Instruction.Processing i) g = pick (byRegister? (i .operand)) 1 0
+extra (Instruction.Single i) g = pick (i .l) 2 1
+extra (Instruction.Block i) g = pick (i .l) (suc (block.count i)) (block.count i)
+extra (Instruction.Branch i) g = 0
+extra (Instruction.Multiply i) g = mOf (rsOf i g)
+extra (Instruction.Other w) g = 0
 
-pub own-steps : (i : Instruction) (g : List ℕ) → ownSteps i g ≡ suc (extra i)
+pub own-steps : (i : Instruction) (g : List ℕ) → ownSteps i g ≡ suc (extra i g)
 unfolding ownSteps
 own-steps (Instruction.Processing i) g = go (byRegister? (i .operand))
   where
@@ -80,6 +85,7 @@ own-steps (Instruction.Block i) g = go (i .l)
     go true = omega arith
     go false = omega arith
 own-steps (Instruction.Branch i) g = refl
+own-steps (Instruction.Multiply i) g = refl
 own-steps (Instruction.Other w) g = refl
 
 -- what an effect leaves of a state
@@ -200,10 +206,10 @@ module _ (w : ℕ) (s : State) (k t : ℕ) (ps : passes (field w 28 4) (s .statu
 
   -- the flight after step 1 of an instruction
   abbrev Flies : Instruction → Type 0
-  Flies i = FliesTo (Word w) s k t (extra i) (effectOf i s)
+  Flies i = FliesTo (Word w) s k t (extra i g) (effectOf i s)
 
   -- the steps that the word has, in any registers
-  steps : {i : Instruction} (h : List ℕ) → readOf w ≡ i → 2 + ownSteps (readOf w) h ≡ 3 + extra i
+  steps : {i : Instruction} (h : List ℕ) → readOf w ≡ i → 2 + ownSteps (readOf w) h ≡ 3 + extra i h
   steps {i} h e = rw e (omega (arith, own-steps i h))
 
   simple : (i : Processing) → readOf w ≡ Instruction.Processing i → byRegister? (i .operand) ≡ false → Flies (Instruction.Processing i)
@@ -228,6 +234,29 @@ module _ (w : ℕ) (s : State) (k t : ℕ) (ps : passes (field w 28 4) (s .statu
   branch i e r =
       let o = branched i g f a in
       rw (ps, e, behind-ahead a r, turn12 a) (land (o .registers) (o .flags) (o .goes) w a k t 3 mem (steps (o .registers) e))
+
+  -- a multiply under way, v cycles after the last boundary's durations: j steps are done after the first, and j' are to follow
+  multiplying : (i : Multiply) → readOf w ≡ Instruction.Multiply i → (j' j u v : ℕ) → mOf (rsOf i g) ≡ suc (j + j') → v ≡ 3 + j
+      → Flight k v (more (suc j') 0)
+      (at g f (inFlight a mem (Word w)) (Later j) idle (counts u k) mem)
+      (boundary (plainAt (leaves s (effect (multiplied i g f) mem))) (suc k) (climb (more (suc j') 0) u))
+  unfolding cycle ownOf due laterStep multiplyLater multiplied lead
+  multiplying i e zero j u v m c = (
+    record { off = refl; retired = refl; beyond = omega arith },
+    rw (e, le-ltb (suc j) (mOf (rsOf i g)) (omega arith)) (land-stored _ _ w a k (suc u) mem mem (refl, refl)),
+  )
+  multiplying i e (suc j') j u v m c = (
+    record { off = refl; retired = refl; beyond = omega arith },
+    rw (e, lt-ltb (suc j) (mOf (rsOf i g)) (omega arith)) (multiplying i e j' (suc j) (suc u) (suc v) (omega arith) (omega arith)),
+  )
+
+  multiply : (i : Multiply) → readOf w ≡ Instruction.Multiply i → Flies (Instruction.Multiply i)
+  unfolding cycle ownOf due firstStep effectOf multiplied
+  multiply i e = go (mOf (rsOf i g)) refl
+    where
+      go : (m : ℕ) → mOf (rsOf i g) ≡ m → FliesTo (Word w) s k t m (effectOf (Instruction.Multiply i) s)
+      go zero z = absurd (omega (arith, m-bounds (rsOf i g)))
+      go (suc j) z = rw (ps, e, turn12 a) (multiplying i e j 0 (suc t) 3 (z ∙ omega arith) refl)
 
   load : (i : Single) → readOf w ≡ Instruction.Single i → i .l ≡ true → FliesTo (Word w) s k t 2 (loadEffect i s)
   unfolding cycle ownOf due loadLater loadEffect lead
@@ -380,10 +409,10 @@ module _ (s : State) (short : s .memory .board .size ≤ mostBytes) where
 -- ---- the instruction lemma
 
 module _ (w : ℕ) (s : State) (k t : ℕ) (range : s .a < counters) (short : s .memory .board .size ≤ mostBytes) (ps : passes (field w 28 4) (s .status) ≡ true) where
-  done : (i : Instruction) → readOf w ≡ i → Quiet i s → FliesTo (Word w) s k t (extra i) (effectOf i s)
+  done : (i : Instruction) → readOf w ≡ i → Quiet i s → FliesTo (Word w) s k t (extra i (s .registers)) (effectOf i s)
   done (Instruction.Processing i) e q = go (byRegister? (i .operand)) refl
     where
-      go : (b : Bool) → byRegister? (i .operand) ≡ b → FliesTo (Word w) s k t (extra (Instruction.Processing i)) (effectOf (Instruction.Processing i) s)
+      go : (b : Bool) → byRegister? (i .operand) ≡ b → FliesTo (Word w) s k t (extra (Instruction.Processing i) (s .registers)) (effectOf (Instruction.Processing i) s)
       go true b = shifted w s k t ps i e b
       go false b = simple w s k t ps i e b
   done (Instruction.Single i) e q = go (i .l) refl
@@ -400,13 +429,14 @@ module _ (w : ℕ) (s : State) (k t : ℕ) (range : s .a < counters) (short : s 
           let z : block.count i ≢ 0 = λ c. let y = ap length (sym (d .2)) ∙ c in omega arith in
           rw (block-store-effect i s l) (blockStore w s k t ps i (d .0) (d .1) e l (d .2) (block-keeps s short i l z q))
   done (Instruction.Branch i) e q = branch w s k t ps i e range
+  done (Instruction.Multiply i) e q = multiply w s k t ps i e
   done (Instruction.Other v) e q = absurd (let z : _≡_ {A = ℕ} 0 1 = cc (q .known) in omega arith)
 
 -- the steps after the first of what is due, and its effect
-abbrev pub extraDue : Due → ℕ
-extraDue no-word = 0
-extraDue skipped = 0
-extraDue (executes i) = extra i
+abbrev pub extraDue : Due → State → ℕ
+extraDue no-word s = 0
+extraDue skipped s = 0
+extraDue (executes i) s = extra i (s .registers)
 
 abbrev pub effectDue : Due → State → Effect
 effectDue no-word s = effect (out (s .registers) (s .status) Next) (s .memory)
@@ -414,12 +444,12 @@ effectDue skipped s = effect (out (s .registers) (s .status) Next) (s .memory)
 effectDue (executes i) s = effectOf i s
 
 pub flies : (x : Fetched) (s : State) (k t : ℕ) → s .a < counters → s .memory .board .size ≤ mostBytes → stopFor x s ≡ 0
-    → FliesTo x s k t (extraDue (due x (s .status))) (effectDue (due x (s .status)) s)
+    → FliesTo x s k t (extraDue (due x (s .status)) s) (effectDue (due x (s .status)) s)
 unfolding stopFor due
 flies Blank s k t r h e = absurd (omega arith)
 flies (Word w) s k t r h e = go (passes (field w 28 4) (s .status)) refl
   where
     go : (b : Bool) → passes (field w 28 4) (s .status) ≡ b
-        → FliesTo (Word w) s k t (extraDue (due (Word w) (s .status))) (effectDue (due (Word w) (s .status)) s)
+        → FliesTo (Word w) s k t (extraDue (due (Word w) (s .status)) s) (effectDue (due (Word w) (s .status)) s)
     go true p = rw p (done w s k t r h p (readOf w) refl (quietly (readOf w) s (rw p at e)))
     go false p = rw p (skips-on w s k t p)

@@ -59,13 +59,13 @@ module _ (s : State) where
   due-step skipped e = refl
   due-step (executes i) e = rw e
 
-  due-duration : (d : Due) → stopDue d s ≡ 0 → performedDue d s .performed .cycles ≡ suc (extraDue d) + refills (effectDue d s .out .goes)
+  due-duration : (d : Due) → stopDue d s ≡ 0 → performedDue d s .performed .cycles ≡ suc (extraDue d s) + refills (effectDue d s .out .goes)
   unfolding executed
   due-duration no-word e = absurd (omega arith)
   due-duration skipped e = refl
   due-duration (executes i) e = rw (e, own-steps i (s .registers))
 
-  due-short : (d : Due) → extraDue d + refills (effectDue d s .out .goes) ≤ 19
+  due-short : (d : Due) → extraDue d s + refills (effectDue d s .out .goes) ≤ 19
   due-short no-word = omega arith
   due-short skipped = omega arith
   due-short (executes i) = omega (arith, own-steps i (s .registers), steps-short i (s .registers), refills-short (effects.effectOf i s .out .goes))
@@ -79,13 +79,13 @@ module _ (p : plain.Machine) (e : stopMet p ≡ 0) where
   unfolding plain.step plain.performedAt performs
   step-is = due-step (plain.stateOf p) (dueAt p) stops-not
 
-  duration-is : duration p ≡ suc (extraDue (dueAt p)) + refills (effectOf p .out .goes)
+  duration-is : duration p ≡ suc (extraDue (dueAt p) (plain.stateOf p)) + refills (effectOf p .out .goes)
   unfolding duration plain.performedAt performs
   duration-is = due-duration (plain.stateOf p) (dueAt p) stops-not
 
 -- the cycles after the first of the instruction at hand
 unfoldable pub flight : plain.Machine → ℕ
-flight p = more (extraDue (dueAt p)) (refills (effectOf p .out .goes))
+flight p = more (extraDue (dueAt p) (plain.stateOf p)) (refills (effectOf p .out .goes))
 
 more-add : (n m : ℕ) → more n m ≡ n + m
 more-add zero m = omega arith
@@ -93,11 +93,11 @@ more-add (suc n) m = omega (arith, more-add n m)
 
 pub duration-flight : (p : plain.Machine) → stopMet p ≡ 0 → duration p ≡ suc (flight p)
 unfolding flight
-duration-flight p e = omega (arith, duration-is p e, more-add (extraDue (dueAt p)) (refills (effectOf p .out .goes)))
+duration-flight p e = omega (arith, duration-is p e, more-add (extraDue (dueAt p) (plain.stateOf p)) (refills (effectOf p .out .goes)))
 
 pub flight-short : (p : plain.Machine) → flight p ≤ 19
 unfolding flight
-flight-short p = omega (arith, more-add (extraDue (dueAt p)) (refills (effectOf p .out .goes)), due-short (plain.stateOf p) (dueAt p))
+flight-short p = omega (arith, more-add (extraDue (dueAt p) (plain.stateOf p)) (refills (effectOf p .out .goes)), due-short (plain.stateOf p) (dueAt p))
 
 -- from the boundary of a plain machine that meets no stop, its instruction's cycles come to the boundary of its step
 pub instruction : (p : plain.Machine) (k t : ℕ) → p .plain .a < counters → p .plain .board .size ≤ mostBytes → stopMet p ≡ 0
@@ -153,6 +153,7 @@ step-board p = go (dueAt p)
         ways true = unfold effects.blockLoadEffect in refl
         ways false = unfold effects.blockStoreEffect in stores-all-alike _ _ _ _ _ _ (s .memory) .board
     kept (Instruction.Branch i) = unfold effects.effectOf in refl
+    kept (Instruction.Multiply i) = unfold effects.effectOf in refl
     kept (Instruction.Other w) = unfold effects.effectOf in refl
 
     run : (i : Instruction) (b : Bool) → eqb (stops.stopOf i s) 0 ≡ b → executed i s .memory .board ≡ s .memory .board

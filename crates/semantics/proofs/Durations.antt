@@ -10,17 +10,20 @@ use Rattle.bits.specs.Choice.{pick}
 use Rattle.word.specs.declared.Processing.{Processing}
 use Rattle.word.specs.declared.Single.{Single}
 use Rattle.word.specs.declared.Block.{Block}
+use Rattle.word.specs.declared.Multiply.{Multiply}
 use Rattle.word.specs.declared.Instruction.{Instruction}
 use Rattle.registers.specs.declared.Goes.{Goes}
 use Rattle.registers.specs.declared.Goes.the-variants.{Next, To}
 use Rattle.processing.specs.Processing.{byRegister?}
+use Rattle.multiply.specs.Multiply.{rsOf}
+use Rattle.multiply.proofs.InternalCycles.{m-bounds}
 use Rattle.transfer.specs.Block.{count}
 use Rattle.transfer.proofs.NamedRegisters.{named-length}
 use Rattle.memory.specs.declared.Fetched.{Fetched}
 use Rattle.registers.specs.State.{State}
 use Rattle.stops.specs.Stops.{Due, no-word, skipped, executes, due, stopOf}
 use Rattle.semantics.specs.Effect.{effectOf}
-use Rattle.semantics.specs.Duration.{processingSteps, singleSteps, blockSteps, refills, ownSteps}
+use Rattle.semantics.specs.Duration.{processingSteps, singleSteps, blockSteps, multiplySteps, refills, ownSteps}
 use Rattle.semantics.specs.Perform.{executed, performedDue, performs}
 
 pub refills-short : (t : Goes) → refills t ≤ 2
@@ -41,12 +44,16 @@ pub block-short : (i : Block) → blockSteps i ≤ 18
 block-short i =
     either (i .l) (count i + 2) (count i + 1) (omega (arith, named-length (i .list))) (omega (arith, named-length (i .list)))
 
+pub multiply-short : (i : Multiply) (g : List ℕ) → multiplySteps i g ≤ 17
+multiply-short i g = omega (arith, m-bounds (rsOf i g))
+
 pub steps-short : (i : Instruction) (g : List ℕ) → ownSteps i g ≤ 18
 unfolding ownSteps
 steps-short (Instruction.Processing i) g = processing-short i
 steps-short (Instruction.Single i) g = single-short i
 steps-short (Instruction.Block i) g = block-short i
 steps-short (Instruction.Branch i) g = omega arith
+steps-short (Instruction.Multiply i) g = omega (arith, multiply-short i g)
 steps-short (Instruction.Other w) g = omega arith
 
 pub performed-short : (x : Fetched) (s : State) → performs x s .performed .cycles ≤ 20

@@ -1,6 +1,7 @@
 pub mod Durations
 pub mod Results
 pub mod Marked
+pub mod MarkedMultiply
 pub mod BranchOffsets
 pub mod OwnBase
 pub mod Stopped

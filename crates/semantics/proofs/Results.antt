@@ -11,6 +11,7 @@ use Rattle.word.specs.declared.Processing.{Processing}
 use Rattle.word.specs.declared.Single.{Single}
 use Rattle.word.specs.declared.Block.{Block}
 use Rattle.word.specs.declared.Branch.{Branch}
+use Rattle.word.specs.declared.Multiply.{Multiply}
 use Rattle.word.specs.declared.Instruction.{Instruction}
 use Rattle.word.specs.Reader.{readOf}
 use Rattle.condition.specs.Condition.{passes}
@@ -24,6 +25,7 @@ use Rattle.registers.specs.declared.Goes.the-variants.{Next, To}
 use Rattle.registers.specs.Registers.{Out, out}
 use Rattle.registers.specs.State.{State}
 use Rattle.processing.specs.Processing.{processed, readsAt}
+use Rattle.multiply.specs.Multiply.{multiplied}
 use Rattle.transfer.specs.Single as single
 use Rattle.transfer.specs.Block as block
 use Rattle.stops.specs.Numbers.{noWord, otherWord}
@@ -33,7 +35,7 @@ use Rattle.stops.specs.Stops.{due, movedStop, stopOf}
 use Rattle.semantics.specs.declared.Performed.{Performed}
 use Rattle.semantics.specs.Branch.{branched}
 use Rattle.semantics.specs.Effect.{Effect, effect, Left, baseThenRegister, baseThenRegisters, loadEffect, storeEffect, blockLoadEffect, blockStoreEffect, effectOf}
-use Rattle.semantics.specs.Duration.{processingSteps, singleSteps, blockSteps, ownSteps, skippedSteps, refills, nextAddress}
+use Rattle.semantics.specs.Duration.{processingSteps, singleSteps, blockSteps, multiplySteps, ownSteps, skippedSteps, refills, nextAddress}
 use Rattle.semantics.specs.Perform.{Result, resultOf, performed, stoppedAt, done, executed, performs}
 
 and-none : (s : ℕ) → s ≡ s + 0
@@ -131,6 +133,13 @@ pub branch-done : (i : Branch) (s : State) {p : Performed} {h : List ℕ} {f₂ 
     → resultOf p h (s .memory) ≡ executed (Instruction.Branch i) s
 unfolding executed stopOf ruleBroken movedStop movesOf ownSteps effectOf
 branch-done i s q o = finished s 1 q o
+
+pub multiply-done : (i : Multiply) (s : State) {steps : ℕ} {p : Performed} {h : List ℕ} {f₂ : ℕ}
+    → steps ≡ multiplySteps i (s .registers) → p ≡ performed 0 f₂ (ahead (s .a) 4) steps → out h f₂ Next ≡ multiplied i (s .registers) (s .status)
+    → resultOf p h (s .memory) ≡ done s (ownSteps (Instruction.Multiply i) (s .registers)) (effectOf (Instruction.Multiply i) s)
+unfolding ownSteps effectOf
+multiply-done i s {steps} n q o =
+    rw (← n) (finished s steps {o = effectOf (Instruction.Multiply i) s .out} (went-on {t = Next} (s .a) steps refl q) o)
 
 pub other-stop : (w : ℕ) (s : State) {p : Performed} → p ≡ stoppedAt otherWord (s .status) (s .a) → resultOf p (s .registers) (s .memory) ≡ executed (Instruction.Other w) s
 unfolding executed stopOf

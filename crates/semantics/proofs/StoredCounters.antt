@@ -16,6 +16,7 @@ use Rattle.memory.specs.Memory.{Memory, readWord}
 use Rattle.registers.specs.declared.Goes.the-variants.{Next, To}
 use Rattle.registers.specs.Registers.{out, put, arrives}
 use Rattle.processing.specs.Processing.{processed, stored}
+use Rattle.multiply.specs.Multiply.{multiplied}
 use Rattle.transfer.specs.Block as block
 use Rattle.transfer.proofs.NamedRegisters.{Rising, named-rising}
 use Rattle.transfer.proofs.NamedPlaces.{At, named-at, named-absent}
@@ -50,7 +51,7 @@ block-loading i f mem g a = go (bit (i .list) 15) refl
     go false e = rw (goes-on f mem (block.named (i .list)) g a 0 (named-rising (i .list)) (named-absent (i .list) 15 (omega arith) e))
 
 pub stored-counters : StoredCounters
-unfolding storesCounter effectOf processed stored loadEffect storeEffect blockLoadEffect blockStoreEffect branched
+unfolding storesCounter effectOf processed stored loadEffect storeEffect blockLoadEffect blockStoreEffect branched multiplied
 stored-counters (Instruction.Processing i) s = go (storesResult (i .operation)) _ _
   where
     go : (b : Bool) (f v : ℕ) → refills (pick b (arrives (s .registers) f (i .rd) v) (out (s .registers) f Next) .goes) ≡ pick (b && not (ltb (i .rd) 15)) 2 0
@@ -67,4 +68,5 @@ stored-counters (Instruction.Block i) s = go (i .l)
     go true = block-loading i _ _ _ _
     go false = refl
 stored-counters (Instruction.Branch i) s = refl
+stored-counters (Instruction.Multiply i) s = refl
 stored-counters (Instruction.Other w) s = refl

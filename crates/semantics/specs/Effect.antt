@@ -1,4 +1,4 @@
--- What a whole instruction does that meets no stop and whose condition passes (paper 01, "Meaning").
+-- What a whole instruction does that meets no stop and whose condition passes (paper 01, "Meaning"; multiply: 02 §1).
 use Prim.Native.Nat.{ℕ}
 use mathlib.Core.Path.{_≡_}
 use mathlib.Core.List.{List}
@@ -13,6 +13,7 @@ use Rattle.registers.specs.declared.Goes.the-variants.{Next}
 use Rattle.registers.specs.Registers.{Out, out, arrives}
 use Rattle.registers.specs.State.{State}
 use Rattle.processing.specs.Processing.{processed, readsAt}
+use Rattle.multiply.specs.Multiply.{multiplied}
 use Rattle.transfer.specs.Single as single
 use Rattle.transfer.specs.Block as block
 use Rattle.semantics.specs.Branch.{branched}
@@ -76,4 +77,5 @@ effectOf (Instruction.Processing i) s = effect (processed i (s .registers) (s .s
 effectOf (Instruction.Single i) s = pick (i .l) (loadEffect i s) (storeEffect i s)
 effectOf (Instruction.Block i) s = pick (i .l) (blockLoadEffect i s) (blockStoreEffect i s)
 effectOf (Instruction.Branch i) s = effect (branched i (s .registers) (s .status) (s .a)) (s .memory)
+effectOf (Instruction.Multiply i) s = effect (multiplied i (s .registers) (s .status)) (s .memory)
 effectOf (Instruction.Other word) s = effect (out (s .registers) (s .status) Next) (s .memory)

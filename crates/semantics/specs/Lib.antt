@@ -3,6 +3,7 @@ pub mod Effect
 pub mod Perform
 pub mod Duration
 pub mod Marked
+pub mod MarkedMultiply
 pub mod BranchOffsets
 pub mod OwnBase
 pub mod Stopped

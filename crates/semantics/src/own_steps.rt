@@ -1,10 +1,13 @@
 // The own steps of each class (paper 01, the table of "Pipeline").
 ghost use mathlib.Core.Path.{_≡_};
-ghost use Rattle.semantics.specs.Duration.{processingSteps, singleSteps, blockSteps, ownSteps};
+ghost use Rattle.semantics.specs.Duration.{processingSteps, singleSteps, blockSteps, multiplySteps, ownSteps};
+use multiply::m_of;
 use processing::shifts_by_register;
+use registers::register;
 use transfer::named::count;
 use word::Block;
 use word::Instruction;
+use word::Multiply;
 use word::Processing;
 use word::Single;
 
@@ -30,6 +33,12 @@ pub fn block_steps(i: Block) -> u32
 
 pub const BRANCH_STEPS: u32 = 1;
 
+pub fn multiply_steps(i: Multiply, registers: &[u32; 15]) -> u32
+    ensures { λ r. ⌜ r ≡ multiplySteps i (now (registers .entry)) ⌝ }
+{
+    m_of(register(registers, i.rs, 0)) + 1
+}
+
 // Of a failed condition, whatever the class.
 pub const SKIPPED_STEPS: u32 = 1;
 
@@ -45,6 +54,7 @@ pub fn own_steps(i: Instruction, registers: &[u32; 15]) -> u32
         Instruction::Single(s) => single_steps(s),
         Instruction::Block(b) => block_steps(b),
         Instruction::Branch(_) => BRANCH_STEPS,
+        Instruction::Multiply(m) => multiply_steps(m, registers),
         Instruction::Other(_) => 1,
     }
 }

@@ -19,6 +19,7 @@ use crate::own_steps::BRANCH_STEPS;
 use crate::own_steps::REFILLS;
 use crate::own_steps::SKIPPED_STEPS;
 use crate::own_steps::block_steps;
+use crate::own_steps::multiply_steps;
 use crate::own_steps::processing_steps;
 use crate::own_steps::single_steps;
 use bits::field;
@@ -28,6 +29,7 @@ use datapath::counter::counter;
 use memory::Board;
 use memory::Fetched;
 use memory::fetch;
+use multiply::multiply;
 use processing::by_numbers::process_taken;
 use processing::by_numbers::taken;
 use registers::Goes;
@@ -36,6 +38,7 @@ use registers::arrive;
 use stops::NO_WORD;
 use stops::OTHER_WORD;
 use stops::stop::block_stop;
+use stops::stop::multiply_stop;
 use stops::stop::processing_stop;
 use stops::stop::single_stop_at;
 use transfer::Reach;
@@ -44,6 +47,7 @@ use transfer::single;
 use word::Block;
 use word::Branch;
 use word::Instruction;
+use word::Multiply;
 use word::Processing;
 use word::Single;
 use word::reader;
@@ -275,6 +279,18 @@ fn perform_branch(i: Branch, registers: &mut [u32; 15], flags: u32, a: u32) -> P
     done(a, BRANCH_STEPS, branch(i, registers, flags, a))
 }
 
+// The steps go by Rs before Rd is written, which may be the same.
+fn perform_multiply(i: Multiply, registers: &mut [u32; 15], flags: u32, a: u32) -> Performed
+    ensures { λ r. ⌜ ((mem : Memory) → resultOf r (now (registers .exit)) mem ≡ executed (Instruction.Multiply i) (state (now (registers .entry)) flags a mem)) ⌝ }
+{
+    let stop = multiply_stop(i);
+    if stop != 0 {
+        return stopped(stop, flags, a);
+    }
+    let steps = multiply_steps(i, registers);
+    went_on(a, steps, multiply(i, registers, flags))
+}
+
 // By the kind of the word, each class in one place, so that its reader and its road dissolve here.
 fn execute(
     word: u32,
@@ -303,6 +319,7 @@ fn execute(
         ),
         2 => perform_block(reader::block(word), registers, memory, flags, a, board),
         3 => perform_branch(reader::branch(word), registers, flags, a),
+        4 => perform_multiply(reader::multiply(word), registers, flags, a),
         _ => stopped(OTHER_WORD, flags, a),
     }
 }

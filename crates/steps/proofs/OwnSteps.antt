@@ -1,29 +1,32 @@
 -- What the functions of `steps` join: the parts of an own step, by class and step.
 -- Assumes nothing.
-use Prim.Native.Nat.{ℕ, zero, suc, _+_, _-_, _<_}
+use Prim.Native.Nat.{ℕ, zero, suc, _+_, _-_, _≤_, _<_}
 use mathlib.Core.Path.{_≡_, refl, sym, ap, _∙_}
 use mathlib.Core.Bool.{true, false}
 use mathlib.Core.List.{List, [], _∷_, tail}
 use native.Mathlib.Omega.{arith}
 use lib.Dec.{eqb}
-use borrow.Author.Tests.{ne-eqb}
+use borrow.Author.Tests.{ne-eqb, lt-ltb, le-ltb}
 use lib.ListN.{length, getD, drop}
 use Rattle.bits.specs.Choice.{pick}
 use Rattle.word.specs.declared.Processing.{Processing}
 use Rattle.word.specs.declared.Single.{Single}
 use Rattle.word.specs.declared.Block.{Block}
+use Rattle.word.specs.declared.Multiply.{Multiply}
 use Rattle.word.specs.declared.Instruction.{Instruction}
 use Rattle.memory.specs.Memory.{Memory, readWord, writeWord}
 use Rattle.registers.specs.declared.Goes.{Goes}
 use Rattle.registers.specs.Registers.{Out, out, put, arrives}
 use Rattle.processing.specs.Processing.{processed, byRegister?}
+use Rattle.multiply.specs.Multiply.{rsOf, multiplied}
+use Rattle.multiply.specs.InternalCycles.{mOf}
 use Rattle.transfer.specs.Single as single
 use Rattle.transfer.specs.Block as block
 use Rattle.steps.specs.declared.Phase.the-variants.{Later}
 use Rattle.steps.specs.declared.After.the-variants.{More}
 use Rattle.steps.specs.declared.Latches.{Latches}
 use Rattle.steps.specs.declared.Step.{Step}
-use Rattle.steps.specs.Steps.{latches, Own, own, ends, still, last, done, on, firstStep, loadLater, storeLater, nextToMove, loadStep, blockLoadLater, storeStep, blockStoreLater, laterStep}
+use Rattle.steps.specs.Steps.{latches, Own, own, ends, still, last, done, on, firstStep, loadLater, storeLater, nextToMove, loadStep, blockLoadLater, storeStep, blockStoreLater, multiplyLater, laterStep}
 
 -- a step that a call left, with the registers and the memory
 pub with-step : (g : List ℕ) (mem : Memory) {r s : Step} → r ≡ s → own g r mem ≡ own g s mem
@@ -53,6 +56,22 @@ pub block-first : (i : Block) (g : List ℕ) (f pc : ℕ) (mem : Memory) {l : La
     → own g (on f l 0) mem ≡ firstStep (Instruction.Block i) g f pc mem
 unfolding firstStep
 block-first i g f pc mem e = rw e
+
+-- ---- later steps of a multiply, by m
+
+module _ (i : Multiply) (k : ℕ) (g : List ℕ) (f : ℕ) (mem : Memory) {rs m : ℕ} (v : rs ≡ rsOf i g) (e : m ≡ mOf rs) where
+  pub multiply-waits : k + 1 < m → own g (still f (More (Later (k + 1)))) mem ≡ multiplyLater i k g f mem
+  unfolding multiplyLater
+  multiply-waits h =
+      let s : k + 1 ≡ suc k = omega arith in
+      let b : suc k < mOf (rsOf i g) = rw (← v, ← e) (omega arith) in
+      rw (s, lt-ltb (suc k) (mOf (rsOf i g)) b)
+
+  pub multiply-ends : m ≤ k + 1 → last (multiplied i g f) mem ≡ multiplyLater i k g f mem
+  unfolding multiplyLater
+  multiply-ends h =
+      let b : mOf (rsOf i g) ≤ suc k = rw (← v, ← e) (omega arith) in
+      rw (le-ltb (suc k) (mOf (rsOf i g)) b)
 
 -- ---- later steps of a single transfer
 

@@ -39,7 +39,7 @@ after word (suc k) =
     let o = after word k in
     laterStep (readOf word) k (o .registers) (o .step .flags) 0x2C (o .step .latches) (o .memory)
 
--- what a step leaves; no word of the table changes the flags
+-- what a step leaves that keeps the flags
 abbrev pub left : List ℕ → Latches → Memory → After → Own
 left g l mem e = own g (step 6 l e) mem
 
@@ -50,6 +50,16 @@ pub record LatchTable : Type 0 where
   -- shift by register, all done in the second: MOV R0, R3, LSL R2
   pub shift-1 : after 0xE1A00213 0 ≡ left registers idle memory (More (Later 0))
   pub shift-2 : after 0xE1A00213 1 ≡ left (holding 0xCC 0x10 2 0x33) idle memory (Done Executed)
+  -- multiply, all done in step m+1. m=2: MLA R0, R3, R2, R1
+  pub multiply-1 : after 0xE0201293 0 ≡ left registers idle memory (More (Later 0))
+  pub multiply-2 : after 0xE0201293 1 ≡ left registers idle memory (More (Later 1))
+  pub multiply-3 : after 0xE0201293 2 ≡ left (holding 0x76 0x10 2 0x33) idle memory (Done Executed)
+  -- m=4: MUL R0, R2, R3
+  pub long-multiply-4 : after 0xE0000392 3 ≡ left registers idle memory (More (Later 3))
+  pub long-multiply-5 : after 0xE0000392 4 ≡ left (holding 0x66 0x10 2 0x33) idle memory (Done Executed)
+  -- Rd=Rs, with S, which leaves C and clears Z: MULS R2, R3, R2
+  pub own-multiply-2 : after 0xE0120293 1 ≡ left registers idle memory (More (Later 1))
+  pub own-multiply-3 : after 0xE0120293 2 ≡ own (holding 0x30 0x10 0x66 0x33) (step 2 idle (Done Executed)) memory
   -- load: address; read and base; register. LDR R0, [R1, 4]!
   pub load-1 : after 0xE5B10004 0 ≡ left registers (latches 0x14 0 0x14) memory (More (Later 0))
   pub load-2 : after 0xE5B10004 1 ≡ left (holding 0x30 0x14 2 0x33) (latches 0 0xA2 0) memory (More (Later 1))

@@ -1,17 +1,21 @@
--- What an instruction does in each of its own steps (paper 01, the table of "Pipeline"), besides the fetch.
+-- What an instruction does in each of its own steps (paper 01, the table of "Pipeline"; multiply: 02 §1), besides the fetch.
 use Prim.Native.Nat.{ℕ, zero, suc, _+_, _-_}
 use mathlib.Core.List.{List, [], _∷_, tail}
 use lib.ListN.{getD, drop}
+use lib.Dec.{ltb}
 use Rattle.bits.specs.Choice.{pick}
 use Rattle.word.specs.declared.Single.{Single}
 use Rattle.word.specs.declared.Block.{Block}
+use Rattle.word.specs.declared.Multiply.{Multiply}
 use Rattle.word.specs.declared.Instruction.{Instruction}
 use Rattle.datapath.specs.Counter.{ahead, behind}
 use Rattle.memory.specs.Memory.{Memory, readWord, writeWord}
 use Rattle.registers.specs.declared.Goes.{Goes}
 use Rattle.registers.specs.declared.Goes.the-variants.{Next, To}
-use Rattle.registers.specs.Registers.{Out, put, arrives}
+use Rattle.registers.specs.Registers.{register, Out, put, arrives}
 use Rattle.processing.specs.Processing.{processed, byRegister?}
+use Rattle.multiply.specs.Multiply.{multiplied}
+use Rattle.multiply.specs.InternalCycles.{mOf}
 use Rattle.transfer.specs.Single as single
 use Rattle.transfer.specs.Block as block
 use Rattle.semantics.specs.Branch.{branched}
@@ -89,6 +93,7 @@ firstStep (Instruction.Processing i) g f pc mem =
 firstStep (Instruction.Single i) g f pc mem = singleFirst i g f pc mem
 firstStep (Instruction.Block i) g f pc mem = blockFirst i g f pc mem
 firstStep (Instruction.Branch i) g f pc mem = last (branched i g f (behind pc 8)) mem
+firstStep (Instruction.Multiply i) g f pc mem = own g (still f (More (Later 0))) mem
 firstStep (Instruction.Other word) g f pc mem = done g f mem
 
 -- ---- step k + 2; pc is A+12
@@ -135,9 +140,14 @@ unfoldable pub blockStoreLater : Block → ℕ → List ℕ → ℕ → ℕ → 
 blockStoreLater i zero g f pc l mem = storeStep 0 (block.named (i .list)) (block.withBase i g (l .base)) f pc l mem
 blockStoreLater i (suc k) g f pc l mem = storeStep (suc k) (drop (suc k) (block.named (i .list))) g f pc l mem
 
+-- a multiply's steps 2 to m do nothing; Rd and the flags are written in the last, m+1
+unfoldable pub multiplyLater : Multiply → ℕ → List ℕ → ℕ → Memory → Own
+multiplyLater i k g f mem = pick (ltb (suc k) (mOf (register g (i .rs) 0))) (own g (still f (More (Later (suc k)))) mem) (last (multiplied i g f) mem)
+
 unfoldable pub laterStep : Instruction → ℕ → List ℕ → ℕ → ℕ → Latches → Memory → Own
 laterStep (Instruction.Processing i) k g f pc l mem = last (processed i g f pc) mem
 laterStep (Instruction.Single i) k g f pc l mem = pick (i .l) (loadLater i k g f l mem) (storeLater i g f l mem)
 laterStep (Instruction.Block i) k g f pc l mem = pick (i .l) (blockLoadLater i k g f l mem) (blockStoreLater i k g f pc l mem)
 laterStep (Instruction.Branch i) k g f pc l mem = done g f mem
+laterStep (Instruction.Multiply i) k g f pc l mem = multiplyLater i k g f mem
 laterStep (Instruction.Other word) k g f pc l mem = done g f mem

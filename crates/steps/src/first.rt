@@ -119,6 +119,8 @@ pub fn first_step(word: u32, registers: &mut [u32; 15], flags: u32, pc: u32) -> 
         ),
         2 => first_block(reader::block(word), registers, flags, pc),
         3 => first_branch(reader::branch(word), registers, flags, pc),
+        // A multiply writes in its last step, which is never this one.
+        4 => still(flags, After::More(Phase::Later(0))),
         _ => still(flags, After::Done(Ended::Executed)),
     }
 }

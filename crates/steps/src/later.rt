@@ -5,19 +5,24 @@ ghost use Prim.Native.Nat.{ℕ};
 ghost use Rattle.word.specs.declared.Instruction.{Instruction};
 ghost use Rattle.word.specs.Reader.{readOf};
 ghost use Rattle.processing.specs.Processing.{processed};
-ghost use Rattle.steps.specs.Steps.{own, last, loadLater, storeLater, laterStep};
+ghost use Rattle.steps.specs.Steps.{own, last, loadLater, storeLater, multiplyLater, laterStep};
 use crate::After;
 use crate::Ended;
 use crate::Latches;
+use crate::Phase;
 use crate::Step;
 use crate::blocks::later_block;
 use crate::ending::last;
 use crate::ending::on;
 use crate::ending::still;
 use memory::Board;
+use multiply::m_of;
+use multiply::multiply;
 use processing::process;
 use registers::arrive;
+use registers::register;
 use transfer::single;
+use word::Multiply;
 use word::Processing;
 use word::Single;
 use word::reader;
@@ -83,6 +88,18 @@ fn later_single(
     }
 }
 
+// Steps 2 to m do nothing; Rd and the flags are written in the last.
+fn later_multiply(i: Multiply, k: u32, registers: &mut [u32; 15], flags: u32) -> Step
+    ensures { λ r. ⌜ ((mem : Memory) → own (now (registers .exit)) r mem ≡ multiplyLater i k (now (registers .entry)) flags mem) ⌝ }
+{
+    let m = m_of(register(registers, i.rs, 0));
+    if k as u64 + 1 < m as u64 {
+        still(flags, After::More(Phase::Later(k + 1)))
+    } else {
+        still(multiply(i, registers, flags), After::Done(Ended::Executed))
+    }
+}
+
 // Step k + 2 of a word.
 pub fn later_step(
     word: u32,
@@ -123,6 +140,7 @@ pub fn later_step(
             board,
         ),
         3 => still(flags, After::Done(Ended::Executed)),
+        4 => later_multiply(reader::multiply(word), k, registers, flags),
         _ => still(flags, After::Done(Ended::Executed)),
     }
 }

@@ -80,6 +80,27 @@ broken-rules = record {
     highest = λ s. refl;
     several = λ s. refl;
   };
+  nine = record {
+    mul = λ s. (refl, refl);
+    mla = λ s. (refl, refl);
+    with-15 = λ s. (refl, refl);
+    rd-rs = λ s. refl;
+    rd-rn = λ s. refl;
+    rd-unused = λ s. refl;
+    rm-rs = λ s. refl;
+  };
+  ten = record {
+    rd = λ s. (refl, refl);
+    rm = λ s. (refl, refl);
+    rs = λ s. (refl, refl);
+    rn = λ s. (refl, refl);
+    unused = λ s. (refl, refl);
+    with-s = λ s. (refl, refl);
+    rd-14 = λ s. refl;
+    rn-14 = λ s. refl;
+    rs-14 = λ s. refl;
+    rm-14 = λ s. refl;
+  };
 }
 
 -- these rules go by the word alone
@@ -89,4 +110,5 @@ rule-alike (Instruction.Processing i) s t = refl
 rule-alike (Instruction.Single i) s t = refl
 rule-alike (Instruction.Block i) s t = refl
 rule-alike (Instruction.Branch i) s t = refl
+rule-alike (Instruction.Multiply i) s t = refl
 rule-alike (Instruction.Other w) s t = refl

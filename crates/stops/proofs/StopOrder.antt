@@ -85,6 +85,7 @@ module _ (s : State) where
   moved-span (Instruction.Single i) = refl
   moved-span (Instruction.Block i) = from-span (block.named (i .list)) (block.lowestAddress i (s .registers))
   moved-span (Instruction.Branch i) = refl
+  moved-span (Instruction.Multiply i) = refl
   moved-span (Instruction.Other word) = refl
 
   storing-is : (i : Instruction) → storing i ≡ not (loads i)
@@ -92,6 +93,7 @@ module _ (s : State) where
   storing-is (Instruction.Single i) = refl
   storing-is (Instruction.Block i) = refl
   storing-is (Instruction.Branch i) = refl
+  storing-is (Instruction.Multiply i) = refl
   storing-is (Instruction.Other word) = refl
 
   stored-span : (i : Instruction) → storedBy i s ≡ pick (storing i) (span (movedCount i) (firstMoved i s)) []

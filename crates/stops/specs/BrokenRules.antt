@@ -1,4 +1,4 @@
--- Each of the eight rules of 23 by marked words that break it, beside words of one other field that break none.
+-- Each of the ten rules of 23 by marked words that break it, beside words of one other field that break none.
 use Prim.Native.Nat.{ℕ}
 use mathlib.Core.Path.{_≡_}
 use Rattle.word.specs.Reader.{readOf}
@@ -95,6 +95,29 @@ pub record Rule8 : Type 0 where
   pub highest : BreaksNone 0xE8908000  -- LDMIA R0, {R15}
   pub several : BreaksNone 0xE8900006  -- LDMIA R0, {R1,R2}
 
+-- 9 multiply with Rd=Rm
+pub record Rule9 : Type 0 where
+  pub mul : Breaks 9 0xE0010291  -- MUL R1, R1, R2
+  pub mla : Breaks 9 0xE0213291  -- MLA R1, R1, R2, R3
+  pub with-15 : Breaks 9 0xE00F029F  -- MUL R15, R15, R2
+  pub rd-rs : BreaksNone 0xE0020291  -- MUL R2, R1, R2
+  pub rd-rn : BreaksNone 0xE0233291  -- MLA R3, R1, R2, R3
+  pub rd-unused : BreaksNone 0xE0033291  -- MUL R3, R1, R2, its unused Rn 3
+  pub rm-rs : BreaksNone 0xE0000191  -- MUL R0, R1, R1
+
+-- 10 any of the four fields 15
+pub record Rule10 : Type 0 where
+  pub rd : Breaks 10 0xE00F0291  -- MUL R15, R1, R2
+  pub rm : Breaks 10 0xE000029F  -- MUL R0, R15, R2
+  pub rs : Breaks 10 0xE0000F91  -- MUL R0, R1, R15
+  pub rn : Breaks 10 0xE020F291  -- MLA R0, R1, R2, R15
+  pub unused : Breaks 10 0xE000F291  -- MUL R0, R1, R2, its unused Rn 15
+  pub with-s : Breaks 10 0xE03F3291  -- MLAS R15, R1, R2, R3
+  pub rd-14 : BreaksNone 0xE02EDC9B  -- MLA R14, R11, R12, R13
+  pub rn-14 : BreaksNone 0xE02BED9C  -- MLA R11, R12, R13, R14
+  pub rs-14 : BreaksNone 0xE02CBE9D  -- MLA R12, R13, R14, R11
+  pub rm-14 : BreaksNone 0xE02DCB9E  -- MLA R13, R14, R11, R12
+
 pub record BrokenRules : Type 0 where
   pub one : Rule1
   pub two : Rule2
@@ -104,3 +127,5 @@ pub record BrokenRules : Type 0 where
   pub six : Rule6
   pub seven : Rule7
   pub eight : Rule8
+  pub nine : Rule9
+  pub ten : Rule10

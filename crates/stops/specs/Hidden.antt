@@ -27,9 +27,10 @@ never = 0xFF000000 ∷ 0xF1A00F11 ∷ 0xF5910000 ∷ 0xF8810005 ∷ 0xFA000000 �
 pub record Hidden : Type 0 where
   -- 21 where there is no word
   pub no-word : (s : State) → stopFor Blank s ≡ 21
-  -- 22 Other: SWI, MUL, SWP, a single with bit 4 set, a coprocessor's load and operation
+  -- 22 Other: SWI; SWP and the other neighbours of multiply, with one bit of 27..22 or of 7..4 that is not multiply's; a single with bit 4 set; a
+  -- coprocessor's load and operation
   pub other : (g : List ℕ) (f : ℕ) (mem : Memory)
-      → AllMeet 22 g f mem (0xEF000000 ∷ 0xE0000291 ∷ 0xE1010092 ∷ 0xE7910012 ∷ 0xED910000 ∷ 0xEE000000 ∷ [])
+      → AllMeet 22 g f mem (0xEF000000 ∷ 0xE1010092 ∷ 0xE0400291 ∷ 0xE0800291 ∷ 0xE1000291 ∷ 0xE00002B1 ∷ 0xE00002D1 ∷ 0xE7910012 ∷ 0xED910000 ∷ 0xEE000000 ∷ [])
   -- if the condition fails, none of 22 to 25
   pub failed : (g : List ℕ) (f : ℕ) (mem : Memory) → bit f 2 ≡ false → AllMeet 0 g f mem equal
   pub never-done : (g : List ℕ) (f : ℕ) (mem : Memory) → AllMeet 0 g f mem never

@@ -23,6 +23,7 @@ movesOf (Instruction.Processing i) s = []
 movesOf (Instruction.Single i) s = movesFrom (i .rd ∷ []) (single.addressOf i (s .registers) (s .status) (ahead (s .a) 8))
 movesOf (Instruction.Block i) s = movesFrom (block.named (i .list)) (block.lowestAddress i (s .registers))
 movesOf (Instruction.Branch i) s = []
+movesOf (Instruction.Multiply i) s = []
 movesOf (Instruction.Other word) s = []
 
 -- it moves nothing into memory
@@ -31,6 +32,7 @@ loads (Instruction.Processing i) = true
 loads (Instruction.Single i) = i .l
 loads (Instruction.Block i) = i .l
 loads (Instruction.Branch i) = true
+loads (Instruction.Multiply i) = true
 loads (Instruction.Other word) = true
 
 abbrev pub addresses : List Move → List ℕ

@@ -1,6 +1,6 @@
--- The eight rules of 23, numbered from 1 in the paper's order (paper 01, "Numbers caused by the state").
+-- The rules of 23, numbered from 1 in the papers' order (paper 01, "Numbers caused by the state", has eight; 02 §1 adds 9 and 10).
 use Prim.Native.Nat.{ℕ, suc}
-use mathlib.Core.Bool.{Bool, false, not, _&&_}
+use mathlib.Core.Bool.{Bool, false, not, _&&_, _||_}
 use mathlib.Core.List.{List, [], _∷_}
 use lib.Dec.{leb, eqb}
 use Rattle.bits.specs.Choice.{pick}
@@ -9,6 +9,7 @@ use Rattle.word.specs.declared.Operand.the-variants.{Constant, ShiftByAmount, S
 use Rattle.word.specs.declared.Processing.{Processing}
 use Rattle.word.specs.declared.Single.{Single}
 use Rattle.word.specs.declared.Block.{Block}
+use Rattle.word.specs.declared.Multiply.{Multiply}
 use Rattle.word.specs.declared.Instruction.{Instruction}
 use Rattle.datapath.specs.Alu.{storesResult}
 use Rattle.registers.specs.State.{State}
@@ -45,10 +46,15 @@ singleRules i = (is15 (i .rn) && single.writesBase i) ∷ rmIs15 (i .offset) ∷
 abbrev pub blockRules : Block → List Bool
 blockRules i = is15 (i .rn) ∷ i .s ∷ eqb (block.count i) 0 ∷ []
 
--- the first rule of 23 that an instruction breaks in a state, or 0. These eight go by the word alone
+-- 9 Rd=Rm; 10 any of the four fields 15, MUL's unused Rn too
+abbrev pub multiplyRules : Multiply → List Bool
+multiplyRules i = eqb (i .rd) (i .rm) ∷ ((is15 (i .rd) || is15 (i .rn)) || (is15 (i .rs) || is15 (i .rm))) ∷ []
+
+-- the first rule of 23 that an instruction breaks in a state, or 0. These ten go by the word alone
 unfoldable pub ruleBroken : Instruction → State → ℕ
 ruleBroken (Instruction.Processing i) s = firstBroken 1 (processingRules i s)
 ruleBroken (Instruction.Single i) s = firstBroken 3 (singleRules i)
 ruleBroken (Instruction.Block i) s = firstBroken 6 (blockRules i)
 ruleBroken (Instruction.Branch i) s = 0
+ruleBroken (Instruction.Multiply i) s = firstBroken 9 (multiplyRules i)
 ruleBroken (Instruction.Other word) s = 0

@@ -22,6 +22,7 @@ movedCount (Instruction.Processing i) = 0
 movedCount (Instruction.Single i) = 1
 movedCount (Instruction.Block i) = block.count i
 movedCount (Instruction.Branch i) = 0
+movedCount (Instruction.Multiply i) = 0
 movedCount (Instruction.Other word) = 0
 
 -- the first address moved
@@ -30,6 +31,7 @@ firstMoved (Instruction.Processing i) s = 0
 firstMoved (Instruction.Single i) s = single.addressOf i (s .registers) (s .status) (ahead (s .a) 8)
 firstMoved (Instruction.Block i) s = block.lowestAddress i (s .registers)
 firstMoved (Instruction.Branch i) s = 0
+firstMoved (Instruction.Multiply i) s = 0
 firstMoved (Instruction.Other word) s = 0
 
 -- it stores what it moves
@@ -38,6 +40,7 @@ storing (Instruction.Processing i) = false
 storing (Instruction.Single i) = not (i .l)
 storing (Instruction.Block i) = not (i .l)
 storing (Instruction.Branch i) = false
+storing (Instruction.Multiply i) = false
 storing (Instruction.Other word) = false
 
 -- some address moved is such: the first, or one that follows 4 apart, modulo 2^32

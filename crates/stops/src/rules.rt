@@ -1,16 +1,17 @@
-// The eight rules of stop 23.
+// The rules of stop 23.
 ghost use mathlib.Core.Path.{_≡_};
 ghost use Rattle.word.specs.declared.Instruction.{Instruction};
-ghost use mathlib.Core.Bool.{_&&_};
+ghost use mathlib.Core.Bool.{_&&_, _||_};
 ghost use Rattle.transfer.specs.Single.{writesBase};
 ghost use Rattle.memory.specs.Memory.{Memory};
 ghost use Rattle.registers.specs.State.{state};
-ghost use Rattle.stops.specs.Rules.{firstBroken, is15, rsIs15, rmIs15, processingRules, singleRules, blockRules, ruleBroken};
+ghost use Rattle.stops.specs.Rules.{firstBroken, is15, rsIs15, rmIs15, processingRules, singleRules, blockRules, multiplyRules, ruleBroken};
 use datapath::alu::stores_result;
 use transfer::named::count;
 use transfer::single::writes_base;
 use word::Block;
 use word::Instruction;
+use word::Multiply;
 use word::Operand;
 use word::Processing;
 use word::Single;
@@ -98,6 +99,21 @@ pub fn block_rule(b: Block) -> u32
     if count(b.list) == 0 { 8 } else { 0 }
 }
 
+fn field_is_15(i: Multiply) -> bool
+    ensures { λ r. ⌜ r ≡ ((is15 (i .rd) || is15 (i .rn)) || (is15 (i .rs) || is15 (i .rm))) ⌝ }
+{
+    ((15 <= i.rd) | (15 <= i.rn)) | ((15 <= i.rs) | (15 <= i.rm))
+}
+
+pub fn multiply_rule(i: Multiply) -> u32
+    ensures { λ r. ⌜ r ≡ firstBroken 9 (multiplyRules i) ⌝ }
+{
+    if i.rd == i.rm {
+        return 9;
+    }
+    if field_is_15(i) { 10 } else { 0 }
+}
+
 // The first rule of 23 that an instruction breaks in a state, or 0.
 pub fn rule_broken(i: Instruction, registers: &[u32; 15], flags: u32, a: u32) -> u32
     ensures { λ r. ⌜ ((mem : Memory) → r ≡ ruleBroken i (state (now (registers .entry)) flags a mem)) ⌝ }
@@ -107,6 +123,7 @@ pub fn rule_broken(i: Instruction, registers: &[u32; 15], flags: u32, a: u32) ->
         Instruction::Single(s) => single_rule(s),
         Instruction::Block(b) => block_rule(b),
         Instruction::Branch(_) => 0,
+        Instruction::Multiply(m) => multiply_rule(m),
         Instruction::Other(_) => 0,
     }
 }

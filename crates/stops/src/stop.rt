@@ -8,7 +8,7 @@ ghost use Rattle.bits.specs.Choice.{pick};
 ghost use Rattle.word.specs.declared.Instruction.{Instruction};
 ghost use Rattle.word.specs.Reader.{readOf};
 ghost use Rattle.memory.specs.Memory.{Memory, memoryOf};
-ghost use Rattle.registers.specs.State.{state};
+ghost use Rattle.registers.specs.State.{State, state};
 ghost use Rattle.stops.specs.Moves.{span};
 ghost use Rattle.stops.specs.Stops.{hits, ordered, movedStop, singleStopAt, stopOf, stopFor};
 use crate::BROKEN_RULE;
@@ -17,6 +17,7 @@ use crate::NO_WORD;
 use crate::OTHER_WORD;
 use crate::OUTSIDE_MEMORY;
 use crate::rules::block_rule;
+use crate::rules::multiply_rule;
 use crate::rules::processing_rule;
 use crate::rules::single_rule;
 use crate::span::hits;
@@ -30,6 +31,7 @@ use transfer::block::lowest_address;
 use transfer::named::count;
 use transfer::single::address;
 use word::Block;
+use word::Multiply;
 use word::Processing;
 use word::Single;
 use word::reader;
@@ -97,6 +99,16 @@ pub fn block_stop(i: Block, registers: &[u32; 15], flags: u32, a: u32, board: Bo
     moved_stop(lowest_address(i, registers), count(i.list), i.l, a, board)
 }
 
+pub fn multiply_stop(i: Multiply) -> u32
+    ensures { λ r. ⌜ ((s : State) → r ≡ stopOf (Instruction.Multiply i) s) ⌝ }
+{
+    if multiply_rule(i) == 0 {
+        0
+    } else {
+        BROKEN_RULE
+    }
+}
+
 // Of a word whose condition passes, by its kind. An Other meets 22, and a branch meets none.
 fn word_stop(word: u32, registers: &[u32; 15], flags: u32, a: u32, board: Board) -> u32
     ensures { λ r. ⌜ ((bytes : List ℕ) → r ≡ stopOf (readOf word) (state (now (registers .entry)) flags a (memoryOf board bytes))) ⌝ }
@@ -117,6 +129,7 @@ fn word_stop(word: u32, registers: &[u32; 15], flags: u32, a: u32, board: Board)
         ),
         2 => block_stop(reader::block(word), registers, flags, a, board),
         3 => 0,
+        4 => multiply_stop(reader::multiply(word)),
         _ => OTHER_WORD,
     }
 }

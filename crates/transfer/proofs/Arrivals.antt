@@ -19,7 +19,7 @@ use Rattle.transfer.specs.Block.{next, loads}
 use Rattle.transfer.proofs.NamedRegisters.{Rising}
 use Rattle.transfer.proofs.NamedPlaces.{At, Absent, rising-absent}
 use Rattle.transfer.proofs.Lengths.{put-length}
-use Rattle.transfer.proofs.Written.{put-other, put-same}
+use Rattle.registers.proofs.Written.{put-other, put-same}
 
 -- the word of register x goes to it, and the rest is kept
 module _ (f : ℕ) (mem : Memory) where

@@ -16,7 +16,8 @@ use Rattle.transfer.specs.Modes.{namedBelow, Inside, Words, newBase, aft
 use Rattle.transfer.proofs.NamedRegisters.{named-below, named-rising}
 use Rattle.transfer.proofs.NamedPlaces.{At, named-at, named-absent}
 use Rattle.transfer.proofs.Modes.{modes}
-use Rattle.transfer.proofs.Written.{register-below, base-other, base-same, base-words, stored-lt}
+use Rattle.transfer.proofs.Written.{base-other, base-same, base-words, stored-lt}
+use Rattle.registers.proofs.Written.{register-below}
 use Rattle.transfer.proofs.Places.{lowest-at, other-at, all-kept}
 use Rattle.transfer.proofs.Arrivals.{loads-kept, loaded-at, loads-flags, goes-on, goes-to}
 

@@ -14,27 +14,11 @@ use Rattle.bits.specs.Choice.{pick}
 use Rattle.word.specs.declared.Block.{Block}
 use Rattle.datapath.specs.Counter.{r15Word}
 use Rattle.registers.specs.Registers.{register, put}
+use Rattle.registers.proofs.Written.{put-other, put-same, register-below}
 use Rattle.transfer.specs.Single.{moved, storedValue}
 use Rattle.transfer.specs.Block.{count, baseOf, changedBase, withBase}
 use Rattle.transfer.specs.Modes.{Words, newBase}
 use Rattle.transfer.proofs.Lengths.{block-base-length}
-
-pub put-other : (g : List ℕ) (x v r : ℕ) → r ≢ x → getD (put g x v) r 0 ≡ getD g r 0
-unfolding put
-put-other g x v r n = go (ltb x 15)
-  where
-    go : (t : Bool) → getD (pick t (set g x v) g) r 0 ≡ getD g r 0
-    go true = getD-set-other g x r v 0 n
-    go false = refl
-
-pub put-same : (g : List ℕ) (x v : ℕ) → x < 15 → length g ≡ 15 → getD (put g x v) x 0 ≡ v
-unfolding put
-put-same g x v h l = rw (lt-ltb x 15 h) (getD-set-same g x v 0 (omega arith))
-
--- a register below 15 reads as it is held
-pub register-below : (g : List ℕ) (x r15 : ℕ) → x < 15 → register g x r15 ≡ getD g x 0
-unfolding register
-register-below g x r15 h = rw (lt-ltb x 15 h)
 
 -- a register written where a test holds
 module _ (t : Bool) (g : List ℕ) (x v : ℕ) where

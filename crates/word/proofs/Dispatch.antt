@@ -12,7 +12,7 @@ use Rattle.bits.specs.Choice.{pick}
 use Rattle.bits.specs.Bits.{field, bit, num}
 use Rattle.bits.proofs.Fields.{num-bit}
 use Rattle.word.specs.declared.Instruction.{Instruction}
-use Rattle.word.specs.Reader.{constantOf, byAmountOf, byRegisterOf, processingOperandOf, singleOffsetOf, processingOf, singleOf, blockOf, branchOf, classed, kindBy, kindIn, readOf}
+use Rattle.word.specs.Reader.{constantOf, byAmountOf, byRegisterOf, processingOperandOf, singleOffsetOf, processingOf, singleOf, blockOf, branchOf, multiplyOf, isMultiply, extendedOf, classed, kindBy, kindIn, readOf}
 
 -- bits 27..25 as a number
 eight : (q : ℕ) → q % 8 ≡ 2 * (q / 2 % 4) + q % 2
@@ -40,9 +40,15 @@ recordBy w bit25 bit4 kind =
     (pick (eqb kind 1) (Instruction.Single (singleOf w (pick bit25 (byAmountOf w) (constantOf w))))
     (pick (eqb kind 2) (Instruction.Block (blockOf w))
     (pick (eqb kind 3) (Instruction.Branch (branchOf w))
-    (Instruction.Other w))))
+    (pick (eqb kind 4) (Instruction.Multiply (multiplyOf w))
+    (Instruction.Other w)))))
 
-by-class : (w : ℕ) (b27 b26 b25 b4 b7 : Bool) → classed w (4 * num b27 + (2 * num b26 + num b25)) b4 b7 ≡ recordBy w b25 b4 (kindBy b27 b26 b25 b4 b7)
+-- the extension space
+extended : (w : ℕ) (m : Bool) → pick m (Instruction.Multiply (multiplyOf w)) (Instruction.Other w) ≡ recordBy w false true (pick m 4 5)
+extended w true = refl
+extended w false = refl
+
+by-class : (w : ℕ) (b27 b26 b25 b4 b7 : Bool) → classed w (4 * num b27 + (2 * num b26 + num b25)) b4 b7 ≡ recordBy w b25 b4 (kindBy b27 b26 b25 b4 b7 (isMultiply w))
 by-class w true true true b4 b7 = refl
 by-class w true true false b4 b7 = refl
 by-class w true false true b4 b7 = refl
@@ -53,7 +59,7 @@ by-class w false true true false true = refl
 by-class w false true true false false = refl
 by-class w false true false b4 b7 = refl
 by-class w false false true b4 b7 = refl
-by-class w false false false true true = refl
+by-class w false false false true true = extended w (isMultiply w)
 by-class w false false false true false = refl
 by-class w false false false false true = refl
 by-class w false false false false false = refl
@@ -79,5 +85,8 @@ module _ (w : ℕ) {k : ℕ} (e : k ≡ kindIn w) where
   pub reads-branch : k ≡ 3 → Instruction.Branch (branchOf w) ≡ readOf w
   reads-branch z = sym (is 3 z)
 
-  pub reads-other : k ≢ 0 → k ≢ 1 → k ≢ 2 → k ≢ 3 → Instruction.Other w ≡ readOf w
-  reads-other a b c d = sym (by-kind w ∙ rw (sym e, ne-eqb k 0 a, ne-eqb k 1 b, ne-eqb k 2 c, ne-eqb k 3 d))
+  pub reads-multiply : k ≡ 4 → Instruction.Multiply (multiplyOf w) ≡ readOf w
+  reads-multiply z = sym (is 4 z)
+
+  pub reads-other : k ≢ 0 → k ≢ 1 → k ≢ 2 → k ≢ 3 → k ≢ 4 → Instruction.Other w ≡ readOf w
+  reads-other a b c d m = sym (by-kind w ∙ rw (sym e, ne-eqb k 0 a, ne-eqb k 1 b, ne-eqb k 2 c, ne-eqb k 3 d, ne-eqb k 4 m))

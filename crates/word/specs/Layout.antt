@@ -1,4 +1,4 @@
--- Where each field stands in a word (paper 01, "Words and records"): a table for each class, row by row as the paper has them, and the law that the
+-- Where each field stands in a word (paper 01, "Words and records"; multiply: 02 §1): a table for each class, row by row as the paper has them, and the law that the
 -- reader is these tables.
 use Prim.Native.Nat.{ℕ, zero, suc, _+_, _-_, _^_, _<_}
 use mathlib.Core.Path.{_≡_}
@@ -14,6 +14,7 @@ use Rattle.word.specs.declared.Processing.{Processing}
 use Rattle.word.specs.declared.Single.{Single}
 use Rattle.word.specs.declared.Block.{Block}
 use Rattle.word.specs.declared.Branch.{Branch}
+use Rattle.word.specs.declared.Multiply.{Multiply}
 use Rattle.word.specs.declared.Instruction.{Instruction}
 
 -- the highest bit, the lowest bit, and what stands there: a field of the record, or fixed bits
@@ -67,11 +68,18 @@ blockTable i =
 abbrev pub branchTable : Branch → List Row
 branchTable i = 31 ‥ 28 is i .condition ∷ 27 ‥ 25 is 0b101 ∷ 24 flag i .link ∷ 23 ‥ 0 is i .offset ∷ []
 
+-- 000000, then 1001 among the registers, multiply
+abbrev pub multiplyTable : Multiply → List Row
+multiplyTable i =
+    31 ‥ 28 is i .condition ∷ 27 ‥ 22 is 0b000000 ∷ 21 flag i .accumulate ∷ 20 flag i .s ∷
+    19 ‥ 16 is i .rd ∷ 15 ‥ 12 is i .rn ∷ 11 ‥ 8 is i .rs ∷ 7 ‥ 4 is 0b1001 ∷ 3 ‥ 0 is i .rm ∷ []
+
 abbrev pub tableOf : Instruction → List Row
 tableOf (Instruction.Processing i) = processingTable i
 tableOf (Instruction.Single i) = singleTable i
 tableOf (Instruction.Block i) = blockTable i
 tableOf (Instruction.Branch i) = branchTable i
+tableOf (Instruction.Multiply i) = multiplyTable i
 tableOf (Instruction.Other word) = 31 ‥ 0 is word ∷ []
 
 -- the offset of a single transfer: 12 bits, else Rm shifted by an amount in the word
@@ -86,6 +94,7 @@ hasKind (Instruction.Processing i) = true
 hasKind (Instruction.Single i) = isOffset (i .offset)
 hasKind (Instruction.Block i) = true
 hasKind (Instruction.Branch i) = true
+hasKind (Instruction.Multiply i) = true
 hasKind (Instruction.Other word) = true
 
 -- a word has at the bits of each row what the row says

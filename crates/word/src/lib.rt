@@ -48,11 +48,23 @@ pub struct Branch {
     pub offset: u32,
 }
 
+// Paper 02 §1. MUL, without accumulate, keeps its unused Rn.
+pub struct Multiply {
+    pub condition: u32,
+    pub accumulate: bool,
+    pub s: bool,
+    pub rd: u32,
+    pub rn: u32,
+    pub rs: u32,
+    pub rm: u32,
+}
+
 // One case of data for each class. `Other` carries its word, and every class keeps every bit.
 pub enum Instruction {
     Processing(Processing),
     Single(Single),
     Block(Block),
     Branch(Branch),
+    Multiply(Multiply),
     Other(u32),
 }

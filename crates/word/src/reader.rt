@@ -1,9 +1,11 @@
 // The reader. An engine goes by the kind of a word and calls the reader of that class alone: a record of any class would go through memory.
 ghost use mathlib.Core.Path.{_≡_};
-ghost use Rattle.word.specs.Reader.{constantOf, byAmountOf, byRegisterOf, processingOperandOf, singleOffsetOf, processingOf, singleOf, blockOf, branchOf, kindBy, kindIn, readOf, isOther};
+ghost use Rattle.bits.specs.Choice.{pick};
+ghost use Rattle.word.specs.Reader.{constantOf, byAmountOf, byRegisterOf, processingOperandOf, singleOffsetOf, processingOf, singleOf, blockOf, branchOf, multiplyOf, isMultiply, kindBy, kindIn, readOf, isOther};
 use crate::Block;
 use crate::Branch;
 use crate::Instruction;
+use crate::Multiply;
 use crate::Operand;
 use crate::Processing;
 use crate::Single;
@@ -18,32 +20,57 @@ pub fn read(word: u32) -> Instruction
         1 => Instruction::Single(single(word, single_offset(word))),
         2 => Instruction::Block(block(word)),
         3 => Instruction::Branch(branch(word)),
+        4 => Instruction::Multiply(multiply(word)),
         _ => Instruction::Other(word),
     }
 }
 
-// The class of a word as a number: 0 processing, 1 single, 2 block, 3 branch, else Other.
+// The class of a word as a number: 0 processing, 1 single, 2 block, 3 branch, 4 multiply, else Other.
 pub fn kind(word: u32) -> u32
     ensures { λ r. ⌜ r ≡ kindIn word ⌝ }
 {
     let bit4 = bit(word, 4);
     let bit7 = bit(word, 7);
-    kind_by(bit(word, 27), bit(word, 26), bit(word, 25), bit4, bit7)
+    kind_by(
+        word,
+        bit(word, 27),
+        bit(word, 26),
+        bit(word, 25),
+        bit4,
+        bit7,
+    )
 }
 
-// With bits 27..25 = 000 and bits 7 and 4 set a word is of the extension space, where multiply and swap stand: this core has neither.
-fn kind_by(bit27: bool, bit26: bool, bit25: bool, bit4: bool, bit7: bool) -> u32
-    ensures { λ r. ⌜ r ≡ kindBy bit27 bit26 bit25 bit4 bit7 ⌝ }
+// With bits 27..25 = 000 and bits 7 and 4 set a word is of the extension space.
+fn kind_by(word: u32, bit27: bool, bit26: bool, bit25: bool, bit4: bool, bit7: bool) -> u32
+    ensures { λ r. ⌜ r ≡ kindBy bit27 bit26 bit25 bit4 bit7 (isMultiply word) ⌝ }
 {
     if bit27 {
-        if bit26 { 4 } else { if bit25 { 3 } else { 2 } }
+        if bit26 { 5 } else { if bit25 { 3 } else { 2 } }
     } else {
         if bit26 {
-            if bit25 & bit4 { 4 } else { 1 }
+            if bit25 & bit4 { 5 } else { 1 }
         } else {
-            if !bit25 & (bit4 & bit7) { 4 } else { 0 }
+            if !bit25 & (bit4 & bit7) {
+                extended_kind(word)
+            } else {
+                0
+            }
         }
     }
+}
+
+fn is_multiply(word: u32) -> bool
+    ensures { λ r. ⌜ r ≡ isMultiply word ⌝ }
+{
+    (field(word, 22, 6) == 0) & (field(word, 4, 4) == 9)
+}
+
+// Multiply and swap stand in the extension space: this core has no swap.
+fn extended_kind(word: u32) -> u32
+    ensures { λ r. ⌜ r ≡ pick (isMultiply word) 4 5 ⌝ }
+{
+    if is_multiply(word) { 4 } else { 5 }
 }
 
 pub fn constant(word: u32) -> Operand
@@ -154,6 +181,20 @@ pub fn branch(word: u32) -> Branch
     }
 }
 
+pub fn multiply(word: u32) -> Multiply
+    ensures { λ r. ⌜ r ≡ multiplyOf word ⌝ }
+{
+    Multiply {
+        condition: field(word, 28, 4),
+        accumulate: bit(word, 21),
+        s: bit(word, 20),
+        rd: field(word, 16, 4),
+        rn: field(word, 12, 4),
+        rs: field(word, 8, 4),
+        rm: field(word, 0, 4),
+    }
+}
+
 pub fn is_other(i: Instruction) -> bool
     ensures { λ r. ⌜ r ≡ isOther i ⌝ }
 {
@@ -162,6 +203,7 @@ pub fn is_other(i: Instruction) -> bool
         Instruction::Single(_) => false,
         Instruction::Block(_) => false,
         Instruction::Branch(_) => false,
+        Instruction::Multiply(_) => false,
         Instruction::Other(_) => true,
     }
 }

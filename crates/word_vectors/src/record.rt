@@ -4,6 +4,7 @@ use tokens::print::field;
 use word::Block;
 use word::Branch;
 use word::Instruction;
+use word::Multiply;
 use word::Operand;
 use word::Processing;
 use word::Single;
@@ -25,6 +26,7 @@ fn instruction(i: Instruction) {
         Instruction::Single(s) => single(s),
         Instruction::Block(b) => block(b),
         Instruction::Branch(b) => branch(b),
+        Instruction::Multiply(m) => multiply(m),
         Instruction::Other(word) => field(b"other holds=", word, 8),
     }
 }
@@ -67,6 +69,16 @@ fn branch(b: Branch) {
     number(b"branch condition=", b.condition);
     flag(b" link=", b.link);
     number(b" offset=", b.offset);
+}
+
+fn multiply(m: Multiply) {
+    number(b"multiply condition=", m.condition);
+    flag(b" s=", m.s);
+    flag(b" accumulate=", m.accumulate);
+    number(b" rn=", m.rn);
+    number(b" rd=", m.rd);
+    number(b" rm=", m.rm);
+    number(b" rs=", m.rs);
 }
 
 fn operand(o: Operand) {

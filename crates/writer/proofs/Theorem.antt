@@ -38,6 +38,7 @@ laid w (Instruction.Single i) = go (i .offset)
     go (ShiftByRegister rm shift rs) = (refl, omega (arith, class-is w))
 laid w (Instruction.Block i) = (refl, omega arith)
 laid w (Instruction.Branch i) = (refl, omega arith)
+laid w (Instruction.Multiply i) = (refl, omega arith)
 laid w (Instruction.Other word) = (refl, omega arith)
 
 -- a record is written as the words of 32 bits that fit its table
@@ -56,6 +57,7 @@ has-kind (Instruction.Processing i) c = refl
 has-kind (Instruction.Single i) c = sym (kinds (i .offset)) ∙ c
 has-kind (Instruction.Block i) c = refl
 has-kind (Instruction.Branch i) c = refl
+has-kind (Instruction.Multiply i) c = refl
 has-kind (Instruction.Other word) c = refl
 
 fits : (w : ℕ) (i : Instruction) → written i ≡ Word w → (w < 2 ^ 32) × Fits w i × (classHas i ≡ true)
@@ -73,6 +75,7 @@ module _ (w : ℕ) (h : w < 2 ^ 32) where
   read-has (Instruction.Single i) r f = kinds (i .offset) ∙ f .0
   read-has (Instruction.Block i) r f = refl
   read-has (Instruction.Branch i) r f = refl
+  read-has (Instruction.Multiply i) r f = refl
   read-has (Instruction.Other v) r f =
       let e : v ≡ w = sym (f .1 .0) ∙ field-whole w h in ap isOther (ap readOf e ∙ r)
 

@@ -45,6 +45,8 @@ fieldsOf (Instruction.Single i) =
 fieldsOf (Instruction.Block i) =
     i .condition ⟨ 4 ⟩ 4 ⟨ 3 ⟩ num (i .p) ⟨ 1 ⟩ num (i .u) ⟨ 1 ⟩ num (i .s) ⟨ 1 ⟩ num (i .w) ⟨ 1 ⟩ num (i .l) ⟨ 1 ⟩ i .rn ⟨ 4 ⟩ i .list ⟨ 16 ⟩ []
 fieldsOf (Instruction.Branch i) = i .condition ⟨ 4 ⟩ 5 ⟨ 3 ⟩ num (i .link) ⟨ 1 ⟩ i .offset ⟨ 24 ⟩ []
+fieldsOf (Instruction.Multiply i) =
+    i .condition ⟨ 4 ⟩ 0b000000 ⟨ 6 ⟩ num (i .accumulate) ⟨ 1 ⟩ num (i .s) ⟨ 1 ⟩ i .rd ⟨ 4 ⟩ i .rn ⟨ 4 ⟩ i .rs ⟨ 4 ⟩ 0b1001 ⟨ 4 ⟩ i .rm ⟨ 4 ⟩ []
 fieldsOf (Instruction.Other word) = word ⟨ 32 ⟩ []
 
 -- the class has such a record: a single lacks an operand kind, and an Other holds no word of another class
@@ -53,6 +55,7 @@ classHas (Instruction.Processing i) = true
 classHas (Instruction.Single i) = singleHas (i .offset)
 classHas (Instruction.Block i) = true
 classHas (Instruction.Branch i) = true
+classHas (Instruction.Multiply i) = true
 classHas (Instruction.Other word) = isOther (readOf word)
 
 -- the word of a record, refused where its class lacks it or a field is too wide

@@ -8,6 +8,7 @@ use bits::number;
 use word::Block;
 use word::Branch;
 use word::Instruction;
+use word::Multiply;
 use word::Operand;
 use word::Processing;
 use word::Single;
@@ -31,6 +32,7 @@ pub fn write(i: Instruction) -> Written
         Instruction::Single(s) => single(s),
         Instruction::Block(b) => block(b),
         Instruction::Branch(b) => branch(b),
+        Instruction::Multiply(m) => multiply(m),
         Instruction::Other(word) => other(word),
     }
 }
@@ -158,6 +160,14 @@ fn branch(i: Branch) -> Written
     ensures { λ r. ⌜ r ≡ written (Instruction.Branch i) ⌝ }
 {
     put(flag(head(i.condition, 5), i.link), 24, i.offset)
+}
+
+fn multiply(i: Multiply) -> Written
+    ensures { λ r. ⌜ r ≡ written (Instruction.Multiply i) ⌝ }
+{
+    let head = put(put(Written::Word(0), 4, i.condition), 6, 0);
+    let registers = put(flag(flag(head, i.accumulate), i.s), 4, i.rd);
+    put(put(put(put(registers, 4, i.rn), 4, i.rs), 4, 9), 4, i.rm)
 }
 
 // An Other holds no word of another class.

@@ -26,7 +26,7 @@ const INSTRUCTIONS: u64 = CALL;
 
 /// The budgets whose calls are timed, on these images.
 const BUDGETS: [u64; 5] = [1, 10, 100, 1000, CALL];
-const BY_CALLS: [&str; 2] = ["alu", "mix"];
+const BY_CALLS: [&str; 3] = ["alu", "mix", "fir"];
 
 /// What was simulated, and the time it took.
 #[derive(Clone, Copy)]
@@ -154,7 +154,7 @@ fn cycles_of(program: &Program, instructions: u64) -> u64 {
     let (_, mut plain) = Plain::start(program.r, program.flags, program.entry, &memory);
     (0..instructions)
         .map(|_| {
-            let cycles = duration(word(&memory, plain.a), plain.flags);
+            let cycles = duration(word(&memory, plain.a), plain.flags, &plain.r);
             plain.step(&mut memory);
             cycles
         })

@@ -3,6 +3,7 @@
 mod budgets;
 mod case;
 mod images;
+mod multiplies;
 mod registers;
 mod stops;
 
@@ -15,6 +16,7 @@ pub fn cases() -> Vec<Case> {
         stops::cases(),
         budgets::cases(),
         registers::cases(),
+        multiplies::cases(),
     ];
     topics.into_iter().flatten().collect()
 }

@@ -38,12 +38,17 @@ fn no_word() -> Vec<Case> {
 fn others() -> Vec<Case> {
     vec![
         Case::new("22 at once", &[SWI]),
-        Case::new("22 multiply", &[mov(1, number(7)), 0xE002_0191]),
+        Case::new("22 long multiply", &[mov(1, number(7)), 0xE082_0191]),
         Case::new("22 coprocessor", &[on(NEVER, SWI), 0xEE00_0000]),
         Case::new(
             "22 single shifted by a register",
             &[single_by(LOAD | UP, 0, 15, 0x15)],
         ),
+        Case::new("22 swap", &[mov(1, number(0x20)), SWP]),
+        Case::new("22 a multiply with bit 22", &[0xE042_0191]),
+        Case::new("22 a multiply with 1011", &[0xE002_01B1]),
+        Case::new("22 a multiply with 1101", &[0xE022_01D1]),
+        Case::new("22 a multiply with 1111, Rd Rm", &[0xE011_01F1]),
     ]
 }
 
@@ -74,6 +79,14 @@ fn forbidden() -> Vec<Case> {
         after_one("block with base 15", block(LOAD | UP, 15, list(&[0]))),
         after_one("block with S", block(LOAD | UP | S_BIT, 1, list(&[0]))),
         after_one("block of no register", block(STORE | UP, 1, 0)),
+        after_one("Rd Rm", mul(1, 1, 2)),
+        after_one("Rd Rm, MLA with S", mlas(14, 14, 1, 1)),
+        after_one("Rd 15", mul(15, 1, 2)),
+        after_one("Rn 15", mla(0, 1, 2, 15)),
+        after_one("unused Rn 15", multiply(0, 0, 1, 2, 15)),
+        after_one("multiplier 15", mul(0, 1, 15)),
+        after_one("Rm 15", mul(0, 15, 2)),
+        after_one("Rd Rm 15", mla(15, 15, 2, 3)),
         Case::new(
             "22 past a forbidden word on a failed condition",
             &[on(0, compare(TST)), SWI],

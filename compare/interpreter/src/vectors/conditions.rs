@@ -41,10 +41,12 @@ fn failed() -> Vec<Case> {
         branch(4),
         branch_link(4),
         ops(CMP, 0, 0, plain(0)),
+        muls(9, 10, 11),
+        mla(9, 10, 11, 12),
     ];
     let stops = [
         SWI,
-        0xE000_0291,
+        0xE080_0291,
         0xE791_0010,
         0xEE00_0010,
         op(CMP, 0, 0, plain(0)),
@@ -56,6 +58,8 @@ fn failed() -> Vec<Case> {
         block(STORE | UP, 13, 3),
         single(STORE | BEFORE, 0, 15, 0),
         single(STORE | BEFORE, 0, 15, 4),
+        mul(1, 1, 2),
+        mla(1, 2, 15, 3),
     ];
     let mut cases = Vec::new();
     for (condition, flags) in [(0, 0xB), (12, 0xD), (15, 0xF)] {
@@ -82,10 +86,11 @@ fn passed() -> Case {
         0xEF00_0000,
         on(13, ops(SUB, 4, 0, number(7))),
         on(0, keep_flags(5)),
+        on(9, mlas(6, 3, 2, 3)),
     ];
     Case::new("passed conditions", &code)
         .at(0x28, &data(0x28, 6))
         .r(14, 0x28)
         .flags(0xA)
-        .count(7)
+        .count(8)
 }

@@ -6,6 +6,7 @@ mod case;
 mod conditions;
 mod constants;
 mod counts;
+mod multiplies;
 mod processing;
 mod r15;
 mod refusals;
@@ -27,6 +28,7 @@ pub fn cases() -> Vec<Case> {
         singles::cases(),
         blocks::cases(),
         branches::cases(),
+        multiplies::cases(),
         stops::cases(),
         refusals::cases(),
         counts::cases(),

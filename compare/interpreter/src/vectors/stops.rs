@@ -16,7 +16,7 @@ pub fn cases() -> Vec<Case> {
 }
 
 /// A case of one word at 20, after one that counts, in a memory of 64 bytes.
-fn at_20(topic: &str, word: u32) -> Case {
+pub fn at_20(topic: &str, word: u32) -> Case {
     Case::new(topic, &[])
         .at(0x1C, &[mov(14, number(1)), word])
         .entry(0x1C)
@@ -54,8 +54,8 @@ fn no_word() -> Vec<Case> {
 
 fn others() -> Vec<Case> {
     let words = [
-        ("multiply", 0xE002_0391),
-        ("multiply and add", 0xE022_4391),
+        ("long multiply", 0xE082_0391),
+        ("long multiply and add", 0xE0A2_4391),
         ("swap", 0xE101_2093),
         ("halfword", 0xE1D1_00B0),
         ("MOV with bits 7 and 4", 0xE1A0_0091),

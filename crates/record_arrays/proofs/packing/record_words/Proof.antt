@@ -21,8 +21,12 @@ returns-4 c = simp (c .branch-words .ensures, c .before .before .i4 .given .1, c
 
 returns-5 : tie.Need-returns-5
 unfolding recordWords
-returns-5 c = simp (c .before .i5 .given .1, c .before .before .match .keys5)
+returns-5 c = simp (c .multiply-words .ensures, c .before .before .i5 .given .1, c .before .before .before .match .keys5)
+
+returns-6 : tie.Need-returns-6
+unfolding recordWords
+returns-6 c = simp (c .before .i6 .given .1, c .before .before .match .keys6)
 
 pub record-words-spec : {M : Type 1} → statement M
 record-words-spec =
-    tie.close (tie.spec (λ c. search needs) (λ c κs. search needs) (λ c. search needs) (λ c κs. search needs) (λ c. search needs) (λ c κs. search needs) (λ c. search needs) (λ c κs. search needs) (λ c. search needs) returns returns-2 returns-3 returns-4 returns-5)
+    tie.close (tie.spec (λ c. search needs) (λ c κs. search needs) (λ c. search needs) (λ c κs. search needs) (λ c. search needs) (λ c κs. search needs) (λ c. search needs) (λ c κs. search needs) (λ c. search needs) (λ c κs. search needs) (λ c. search needs) returns returns-2 returns-3 returns-4 returns-5 returns-6)

@@ -22,8 +22,12 @@ returns-4 c = simp (c .branch-of .ensures, eq-eqb _ _ (c .before .if4 .taken), c
 
 returns-5 : tie.Need-returns-5
 unfolding recordOf
-returns-5 c = simp (ne-eqb _ _ (c .before .if4 .left), ne-eqb _ _ (c .before .before .if3 .left), ne-eqb _ _ (c .before .before .before .if2 .left), ne-eqb _ _ (c .before .before .before .before .if1 .left))
+returns-5 c = simp (c .multiply-of .ensures, eq-eqb _ _ (c .before .if5 .taken), c .before .if5 .taken, ne-eqb _ _ (c .before .before .if4 .left), ne-eqb _ _ (c .before .before .before .if3 .left), ne-eqb _ _ (c .before .before .before .before .if2 .left), ne-eqb _ _ (c .before .before .before .before .before .if1 .left))
+
+returns-6 : tie.Need-returns-6
+unfolding recordOf
+returns-6 c = simp (ne-eqb _ _ (c .before .if5 .left), ne-eqb _ _ (c .before .before .if4 .left), ne-eqb _ _ (c .before .before .before .if3 .left), ne-eqb _ _ (c .before .before .before .before .if2 .left), ne-eqb _ _ (c .before .before .before .before .before .if1 .left))
 
 pub record-of-spec : {M : Type 1} → statement M
 record-of-spec =
-    tie.close (tie.spec (λ c. search needs) (λ c κs. search needs) returns (λ c κs. search needs) returns-2 (λ c κs. search needs) returns-3 (λ c κs. search needs) returns-4 (λ c. search needs) returns-5)
+    tie.close (tie.spec (λ c. search needs) (λ c κs. search needs) returns (λ c κs. search needs) returns-2 (λ c κs. search needs) returns-3 (λ c κs. search needs) returns-4 (λ c κs. search needs) returns-5 (λ c. search needs) returns-6)

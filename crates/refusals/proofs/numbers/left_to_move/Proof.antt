@@ -10,4 +10,4 @@ returns-3 c = simp (c .left2 .ensures, c .before .count .ensures, c .before .bef
 
 pub left-to-move-spec : {M : Type 1} → statement M
 left-to-move-spec =
-    tie.close (tie.spec (λ c. search needs) (λ c. search needs) (λ c κs. search needs) (λ c. search needs) (λ c κs. search needs) (λ c κs. search needs) (λ c. search needs) (λ c. search needs) (λ c. search needs) returns-2 returns-3 (λ c. search needs) (λ c. search needs))
+    tie.close (tie.spec (λ c. search needs) (λ c. search needs) (λ c κs. search needs) (λ c. search needs) (λ c κs. search needs) (λ c κs. search needs) (λ c. search needs) (λ c. search needs) (λ c. search needs) (λ c. search needs) returns-2 returns-3 (λ c. search needs) (λ c. search needs) (λ c. search needs))

@@ -21,8 +21,12 @@ returns-4 c = rw (c .enum-told .given .1)
 
 returns-5 : tie.Need-returns-5
 unfolding ownSteps
-returns-5 c = rw (c .enum-told2 .given .1)
+returns-5 c = rw (c .before .before .i4 .given .1) (c .multiply-steps .ensures)
+
+returns-6 : tie.Need-returns-6
+unfolding ownSteps
+returns-6 c = rw (c .enum-told2 .given .1)
 
 pub own-steps-spec : {M : Type 1} → statement M
 own-steps-spec =
-    tie.close (tie.spec (λ c. search needs) (λ c κs. search needs) (λ c. search needs) (λ c κs. search needs) (λ c. search needs) (λ c κs. search needs) (λ c. search needs) (λ c. search needs) returns returns-2 returns-3 returns-4 returns-5)
+    tie.close (tie.spec (λ c. search needs) (λ c κs. search needs) (λ c. search needs) (λ c κs. search needs) (λ c. search needs) (λ c κs. search needs) (λ c. search needs) (λ c. search needs) (λ c κs. search needs) (λ c. search needs) returns returns-2 returns-3 returns-4 returns-5 returns-6)

@@ -1,7 +1,7 @@
 use mathlib.Core.Path.{_≡_}
 use Rattle.word.specs.declared.Instruction.{Instruction}
 use Rattle.word.specs.Reader.{readOf}
-use Rattle.word.proofs.Dispatch.{reads-processing, reads-single, reads-block, reads-branch, reads-other}
+use Rattle.word.proofs.Dispatch.{reads-processing, reads-single, reads-block, reads-branch, reads-multiply, reads-other}
 use Rattle.steps.specs.Steps.{laterStep}
 use Rattle.steps.proofs.OwnSteps.{with-step, later-read}
 use borrow.Author.Needs.{needs}
@@ -28,8 +28,15 @@ returns-4 c = later-read _ _ _ _ _ _ (reads-branch _ (c .before .before .kind .e
 returns-5 : tie.Need-returns-5
 unfolding laterStep
 returns-5 c =
-    let ((((_, n0), n1), n2), n3) = c .before .match .rest in
-    later-read _ _ _ _ _ _ (reads-other _ (c .before .before .kind .ensures) n0 n1 n2 n3) (with-step _ _ (c .still2 .ensures))
+    let e : Instruction.Multiply (c .before .before .multiply .result) ≡ readOf (c .before .before .before .before .before .before .args .word) =
+    rw (c .before .before .multiply .ensures) (reads-multiply _ (c .before .before .before .before .kind .ensures) (c .before .before .before .match .keys5)) in
+    later-read _ _ _ _ _ _ e (c .later-multiply .ensures _)
+
+returns-6 : tie.Need-returns-6
+unfolding laterStep
+returns-6 c =
+    let (((((_, n0), n1), n2), n3), n4) = c .before .match .rest in
+    later-read _ _ _ _ _ _ (reads-other _ (c .before .before .kind .ensures) n0 n1 n2 n3 n4) (with-step _ _ (c .still2 .ensures))
 
 pub later-step-spec : {M : Type 1} → statement M
-later-step-spec = tie.close (tie.spec (λ c κs. search needs) (λ c κs. search needs) (λ c κs. search needs) (λ c κs. search needs) (λ c κs. search needs) (λ c κs. search needs) (λ c κs. search needs) (λ c κs. search needs) (λ c κs. search needs) (λ c κs. search needs) (λ c κs. search needs) returns (λ c. search needs) returns-2 (λ c. search needs) returns-3 returns-4 returns-5)
+later-step-spec = tie.close (tie.spec (λ c κs. search needs) (λ c κs. search needs) (λ c κs. search needs) (λ c κs. search needs) (λ c κs. search needs) (λ c κs. search needs) (λ c κs. search needs) (λ c κs. search needs) (λ c κs. search needs) (λ c κs. search needs) (λ c κs. search needs) (λ c κs. search needs) (λ c κs. search needs) returns (λ c. search needs) returns-2 (λ c. search needs) returns-3 returns-4 returns-5 returns-6)

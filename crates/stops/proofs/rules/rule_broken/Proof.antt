@@ -21,8 +21,12 @@ returns-4 c mem = rw (c .enum-told .given .1)
 
 returns-5 : tie.Need-returns-5
 unfolding ruleBroken
-returns-5 c mem = rw (c .enum-told2 .given .1)
+returns-5 c mem = rw (c .before .before .i4 .given .1) (c .multiply-rule .ensures)
+
+returns-6 : tie.Need-returns-6
+unfolding ruleBroken
+returns-6 c mem = rw (c .enum-told2 .given .1)
 
 pub rule-broken-spec : {M : Type 1} → statement M
 rule-broken-spec =
-    tie.close (tie.spec (λ c. search needs) (λ c κs. search needs) (λ c. search needs) (λ c κs. search needs) (λ c. search needs) (λ c κs. search needs) (λ c. search needs) (λ c. search needs) returns returns-2 returns-3 returns-4 returns-5)
+    tie.close (tie.spec (λ c. search needs) (λ c κs. search needs) (λ c. search needs) (λ c κs. search needs) (λ c. search needs) (λ c κs. search needs) (λ c. search needs) (λ c. search needs) (λ c κs. search needs) (λ c. search needs) returns returns-2 returns-3 returns-4 returns-5 returns-6)

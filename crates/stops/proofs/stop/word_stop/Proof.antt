@@ -1,4 +1,4 @@
-use Rattle.word.proofs.Dispatch.{reads-processing, reads-single, reads-block, reads-branch, reads-other}
+use Rattle.word.proofs.Dispatch.{reads-processing, reads-single, reads-block, reads-branch, reads-multiply, reads-other}
 use Rattle.memory.specs.Memory.{memoryOf}
 use Rattle.stops.proofs.Joins.{read-stop, branch-stop, other-stop}
 use borrow.Author.Needs.{needs}
@@ -22,9 +22,12 @@ returns-4 : tie.Need-returns-4
 returns-4 c bytes = read-stop _ (reads-branch _ (c .before .kind .ensures) (c .match .keys4)) (branch-stop _ _)
 
 returns-5 : tie.Need-returns-5
-returns-5 c bytes =
-    let ((((_, n0), n1), n2), n3) = c .match .rest in
-    read-stop _ (reads-other _ (c .before .kind .ensures) n0 n1 n2 n3) (other-stop _ _)
+returns-5 c bytes = read-stop _ (rw (c .before .multiply .ensures) (reads-multiply _ (c .before .before .before .kind .ensures) (c .before .before .match .keys5))) (c .multiply-stop .ensures _)
+
+returns-6 : tie.Need-returns-6
+returns-6 c bytes =
+    let (((((_, n0), n1), n2), n3), n4) = c .match .rest in
+    read-stop _ (reads-other _ (c .before .kind .ensures) n0 n1 n2 n3 n4) (other-stop _ _)
 
 pub word-stop-spec : {M : Type 1} → statement M
-word-stop-spec = tie.close (tie.spec (λ c κs. search needs) (λ c κs. search needs) (λ c κs. search needs) (λ c κs. search needs) (λ c κs. search needs) (λ c κs. search needs) (λ c κs. search needs) (λ c κs. search needs) (λ c κs. search needs) returns returns-2 returns-3 returns-4 returns-5)
+word-stop-spec = tie.close (tie.spec (λ c κs. search needs) (λ c κs. search needs) (λ c κs. search needs) (λ c κs. search needs) (λ c κs. search needs) (λ c κs. search needs) (λ c κs. search needs) (λ c κs. search needs) (λ c κs. search needs) (λ c κs. search needs) (λ c κs. search needs) returns returns-2 returns-3 returns-4 returns-5 returns-6)

@@ -18,11 +18,11 @@ returns-5 : tie.Need-returns-5
 returns-5 c = simp (c .if5 .left, c .before .if4 .taken, c .before .before .if1 .left)
 
 returns-6 : tie.Need-returns-6
-returns-6 c = simp (c .if6 .taken, c .before .if4 .left, c .before .before .if1 .left)
+returns-6 c = simp (c .extended-kind .ensures, c .before .if6 .taken, c .before .before .if4 .left, c .before .before .before .if1 .left)
 
 returns-7 : tie.Need-returns-7
 returns-7 c = simp (c .if6 .left, c .before .if4 .left, c .before .before .if1 .left)
 
 pub kind-by-spec : {M : Type 1} → statement M
 kind-by-spec =
-    tie.close (tie.spec returns returns-2 returns-3 returns-4 returns-5 returns-6 returns-7)
+    tie.close (tie.spec (λ c κs. search needs) returns returns-2 returns-3 returns-4 returns-5 returns-6 returns-7)

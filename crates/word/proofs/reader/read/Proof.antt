@@ -1,4 +1,4 @@
-use Rattle.word.proofs.Dispatch.{reads-processing, reads-single, reads-block, reads-branch, reads-other}
+use Rattle.word.proofs.Dispatch.{reads-processing, reads-single, reads-block, reads-branch, reads-multiply, reads-other}
 use borrow.Author.Needs.{needs}
 use Rattle.word.proofs.reader.read.Statement.{statement}
 use Rattle.word.proofs.reader.read.Tie as tie
@@ -16,10 +16,13 @@ returns-4 : tie.Need-returns-4
 returns-4 c = rw (c .branch .ensures) (reads-branch _ (c .before .before .kind .ensures) (c .before .match .keys4))
 
 returns-5 : tie.Need-returns-5
-returns-5 c =
-    let ((((_, n0), n1), n2), n3) = c .match .rest in
-    reads-other _ (c .before .kind .ensures) n0 n1 n2 n3
+returns-5 c = rw (c .multiply .ensures) (reads-multiply _ (c .before .before .kind .ensures) (c .before .match .keys5))
+
+returns-6 : tie.Need-returns-6
+returns-6 c =
+    let (((((_, n0), n1), n2), n3), n4) = c .match .rest in
+    reads-other _ (c .before .kind .ensures) n0 n1 n2 n3 n4
 
 pub read-spec : {M : Type 1} → statement M
 read-spec =
-    tie.close (tie.spec (λ c κs. search needs) (λ c κs. search needs) (λ c κs. search needs) (λ c κs. search needs) (λ c κs. search needs) (λ c κs. search needs) (λ c κs. search needs) returns returns-2 returns-3 returns-4 returns-5)
+    tie.close (tie.spec (λ c κs. search needs) (λ c κs. search needs) (λ c κs. search needs) (λ c κs. search needs) (λ c κs. search needs) (λ c κs. search needs) (λ c κs. search needs) (λ c κs. search needs) returns returns-2 returns-3 returns-4 returns-5 returns-6)

@@ -1,0 +1,2 @@
+pub mod InternalCycles
+pub mod Meaning

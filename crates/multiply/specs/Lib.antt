@@ -1,0 +1,3 @@
+pub mod InternalCycles
+pub mod Multiply
+pub mod Meaning
