@@ -1,6 +1,6 @@
 -- No instruction takes more than 20 cycles.
 -- Assumes nothing.
-use Prim.Native.Nat.{ℕ, _+_, _≤_}
+use Prim.Native.Nat.{ℕ, _+_, _≤_, suc-le-suc}
 use mathlib.Core.Path.{_≡_, refl}
 use mathlib.Core.Bool.{Bool, true, false}
 use mathlib.Core.List.{List}
@@ -15,7 +15,6 @@ use Rattle.word.specs.declared.Instruction.{Instruction}
 use Rattle.registers.specs.declared.Goes.{Goes}
 use Rattle.registers.specs.declared.Goes.the-variants.{Next, To}
 use Rattle.processing.specs.Processing.{byRegister?}
-use Rattle.multiply.specs.Multiply.{rsOf}
 use Rattle.multiply.proofs.InternalCycles.{m-bounds}
 use Rattle.transfer.specs.Block.{count}
 use Rattle.transfer.proofs.NamedRegisters.{named-length}
@@ -45,7 +44,7 @@ block-short i =
     either (i .l) (count i + 2) (count i + 1) (omega (arith, named-length (i .list))) (omega (arith, named-length (i .list)))
 
 pub multiply-short : (i : Multiply) (g : List ℕ) → multiplySteps i g ≤ 17
-multiply-short i g = omega (arith, m-bounds (rsOf i g))
+multiply-short i g = suc-le-suc (m-bounds _ .1)
 
 pub steps-short : (i : Instruction) (g : List ℕ) → ownSteps i g ≤ 18
 unfolding ownSteps

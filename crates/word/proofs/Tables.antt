@@ -52,9 +52,6 @@ nibble w =
 outer : (w : ℕ) → field w 4 4 ≡ 9 → (field w 4 1 ≡ 1) × (field w 7 1 ≡ 1)
 outer w e = omega (arith, nibble w, field-lt w 4 1, field-lt w 5 2, field-lt w 7 1)
 
-multiply-bits : (w : ℕ) → field w 22 6 ≡ 0 → field w 4 4 ≡ 9 → isMultiply w ≡ true
-multiply-bits w z n = rw (z, n)
-
 -- a record with its operand written out, for a proof that goes by the operand's kind
 abbrev pub processingWith : Processing → Operand → Instruction
 processingWith i o = Instruction.Processing (record { condition = i .condition; operation = i .operation; s = i .s; rn = i .rn; rd = i .rd; operand = o })
@@ -118,6 +115,9 @@ module _ (w : ℕ) (h : w < 2 ^ 32) where
 
   -- ---- a word reads as the record whose table it fits
 
+  multiply-bits : field w 22 6 ≡ 0 → field w 4 4 ≡ 9 → isMultiply w ≡ true
+  multiply-bits z n = rw (z, n)
+
   own-word : (v : ℕ) → field w 0 32 ≡ v → Instruction.Other v ≡ Instruction.Other w
   own-word v e = ap Instruction.Other (sym e ∙ field-whole w h)
 
@@ -149,7 +149,7 @@ module _ (w : ℕ) (h : w < 2 ^ 32) where
       let z : field w 22 6 ≡ 0 = t .1 .1 .0 in
       let n : field w 4 4 ≡ 9 = omega arith in
       let b = outer w n in
-      let m : isMultiply w ≡ true = multiply-bits w z n in
+      let m : isMultiply w ≡ true = multiply-bits z n in
       let e : readOf w ≡ Instruction.Multiply (record { condition = i .condition; accumulate = i .accumulate; s = i .s; rd = i .rd; rn = i .rn; rs = i .rs; rm = i .rm }) =
       cc (bit-num (i .accumulate), bit-num (i .s)) in inl e
   reads-as (Instruction.Other v) t = inr (own-word v (t .1 .0))
