@@ -1,21 +1,18 @@
 -- The second roads to a multiply, proved.
 -- Assumes nothing.
-use Prim.Native.Nat.{ℕ, suc, _+_, _*_, _/_, _%_, _^_, _<_}
-use mathlib.Core.Path.{_≡_, refl, sym, ap, _∙_}
+use Prim.Native.Nat.{ℕ, suc, _+_, _*_, _%_, _^_, _<_}
+use mathlib.Core.Path.{_≡_, refl, _∙_}
 use mathlib.Core.Bool.{true, false}
 use mathlib.Core.List.{List}
-use mathlib.Core.Logic.{_≢_}
 use native.Mathlib.Nat.{mul-suc, mod-lt}
 use native.Mathlib.Omega.{arith}
 use lib.ListN.{length, getD}
-use lib.Dec.{eqb}
 use lib.Pow.{pow-pos}
-use Rattle.bits.specs.Bits.{field, bit, num}
+use Rattle.bits.specs.Bits.{field, num}
 use Rattle.bits.proofs.Fields.{num-bit}
 use Rattle.word.specs.declared.Multiply.{Multiply}
 use Rattle.datapath.specs.Alu.{computed, sum, flagsOf, carryOf, overflowOf}
 use Rattle.datapath.proofs.Flags.{sign-of, zero-of, carries-of}
-use Rattle.registers.specs.Registers.{register}
 use Rattle.registers.proofs.Written.{put-other, put-same, register-below}
 use Rattle.multiply.specs.Multiply.{product, productOf, flagsAfter, multiplied}
 use Rattle.multiply.specs.Meaning.{Multiplies, Meaning}

@@ -10,7 +10,7 @@ use lib.ListN.{length, getD, set}
 use lib.Seq.{getD-set-same}
 use borrow.Author.Tests.{lt-ltb, le-ltb, ltb-false}
 use Rattle.bits.specs.Choice.{pick}
-use Rattle.bits.specs.Bits.{bit, field, num}
+use Rattle.bits.specs.Bits.{field, num}
 use Rattle.word.specs.declared.Processing.{Processing}
 use Rattle.datapath.specs.declared.Computed.{Computed}
 use Rattle.datapath.specs.Alu.{storesResult, operate, flagsOf}

@@ -1,7 +1,7 @@
 -- Marked multiplies (paper 02 §1), each of a whole instruction word: results, flags and cycles.
 use Prim.Native.Nat.{ℕ, _+_, _*_}
 use mathlib.Core.Path.{_≡_}
-use mathlib.Core.List.{List, [], _∷_, map}
+use mathlib.Core.List.{[], _∷_, map}
 use lib.ListN.{replicate}
 use Rattle.bits.specs.Bits.{num}
 use Rattle.datapath.specs.Alu.{carryOf}

@@ -7,9 +7,8 @@ use mathlib.Core.Logic.{_≢_}
 use Prim.Native.Nat.{ℕ, _*_, _^_, _<_}
 use native.Mathlib.Omega.{arith}
 use lib.Dec.{ltb, eqb}
-use lib.ListN.{length, getD, set}
-use lib.Seq.{getD-set-same, getD-set-other}
-use borrow.Author.Tests.{lt-ltb, eqb-true, eqb-false}
+use lib.ListN.{length, getD}
+use borrow.Author.Tests.{eqb-true, eqb-false}
 use Rattle.bits.specs.Choice.{pick}
 use Rattle.word.specs.declared.Block.{Block}
 use Rattle.datapath.specs.Counter.{r15Word}

@@ -12,7 +12,7 @@ use Rattle.bits.specs.Choice.{pick}
 use Rattle.bits.specs.Bits.{field, bit, num}
 use Rattle.bits.proofs.Fields.{num-bit}
 use Rattle.word.specs.declared.Instruction.{Instruction}
-use Rattle.word.specs.Reader.{constantOf, byAmountOf, byRegisterOf, processingOperandOf, singleOffsetOf, processingOf, singleOf, blockOf, branchOf, multiplyOf, isMultiply, extendedOf, classed, kindBy, kindIn, readOf}
+use Rattle.word.specs.Reader.{constantOf, byAmountOf, byRegisterOf, processingOperandOf, singleOffsetOf, processingOf, singleOf, blockOf, branchOf, multiplyOf, isMultiply, classed, kindBy, kindIn, readOf}
 
 -- bits 27..25 as a number
 eight : (q : ℕ) → q % 8 ≡ 2 * (q / 2 % 4) + q % 2
