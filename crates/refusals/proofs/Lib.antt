@@ -1,3 +1,4 @@
 pub mod Refusals
+pub mod UnderWay
 pub mod Phases
 pub mod Tables

@@ -8,18 +8,14 @@ use lib.Dec.{eqb, ltb}
 use borrow.Author.Tests.{ltb-false}
 use Rattle.bits.specs.Choice.{pick}
 use Rattle.plain.specs.Numbers.{badLength, badFlags, badBudget, isCounter, isStop}
-use Rattle.stops.specs.Stops.{Due}
 use Rattle.steps.specs.declared.Phase.{Phase}
 use Rattle.steps.proofs.Both.{or-false}
 use Rattle.cycle.specs.declared.Control.{Control}
 use Rattle.cycle.specs.Machine.{Machine, mostCycles}
-use Rattle.refusals.specs.Numbers.{badStep, badPhase, heldAway, bad, refusal}
+use Rattle.refusals.specs.Numbers.{badPhase, heldAway, bad, refusal}
 
 pub phase-as : (m : Machine) {x y : Phase} {r : Bool} → x ≡ y → r ≡ badPhase y m → r ≡ badPhase x m
 phase-as m e q = q ∙ ap (λ (ph : Phase). badPhase ph m) (sym e)
-
-pub step-as : {d x : Due} (k : ℕ) (m : Machine) {r : Bool} → d ≡ x → r ≡ badStep x k m → r ≡ badStep d k m
-step-as k m e q = q ∙ ap (λ (d : Due). badStep d k m) (sym e)
 
 -- the counts of a record that is not bad, and its phase
 pub record Good (m : Machine) : Type 0 where

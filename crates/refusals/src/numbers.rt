@@ -2,19 +2,16 @@
 ghost use mathlib.Core.Path.{_≡_};
 ghost use mathlib.Core.Bool.{not, _||_};
 ghost use mathlib.Core.List.{List};
-ghost use Prim.Native.Nat.{ℕ, suc, _-_};
-ghost use lib.Dec.{ltb, eqb};
-ghost use Rattle.word.specs.declared.Instruction.{Instruction};
+ghost use Prim.Native.Nat.{ℕ};
+ghost use lib.Dec.{ltb};
 ghost use Rattle.plain.specs.Numbers.{isStop};
-ghost use Rattle.semantics.specs.Duration.{ownSteps};
-ghost use Rattle.stops.specs.Rules.{ruleBroken};
 ghost use Rattle.stops.specs.Stops.{due};
 ghost use Rattle.cycle.specs.Machine.{machine, mostCycles};
-ghost use Rattle.refusals.specs.Numbers.{leftToMove, stateLater, badWithin, badStep, badPhase, heldAway, bad, refusal, atOnce};
+ghost use Rattle.refusals.specs.Numbers.{badStep, badPhase, heldAway, bad, refusal, atOnce};
+use crate::under_way::bad_word;
 use bits::field;
 use condition::passes;
 use cycle::Control;
-use datapath::counter::behind_later;
 use memory::Fetched;
 use plain::numbers::budget_is_bad;
 use plain::numbers::flags_are_bad;
@@ -25,58 +22,7 @@ use plain::refused::BUDGET_REFUSED;
 use plain::refused::OTHER_MEMORY;
 use plain::refused::RECORD_REFUSED;
 use plain::refused::TOO_MANY_CYCLES;
-use semantics::own_steps::own_steps;
 use steps::Phase;
-use stops::rules::rule_broken;
-use stops::span::outside;
-use transfer::named::count;
-use word::Instruction;
-use word::reader;
-use word::reader::is_other;
-
-// How many of n are left after k.
-fn left(n: u32, k: u32) -> u32
-    ensures { λ r. ⌜ r ≡ n - k ⌝ }
-{
-    if k < n { n - k } else { 0 }
-}
-
-// The words still to be moved at step k + 2.
-fn left_to_move(i: Instruction, k: u32) -> u32
-    ensures { λ r. ⌜ r ≡ leftToMove i k ⌝ }
-{
-    match i {
-        Instruction::Processing(_) => 0,
-        Instruction::Single(_) => left(1, k),
-        Instruction::Block(b) => left(count(b.list), k),
-        Instruction::Branch(_) => 0,
-        Instruction::Multiply(_) => 0,
-        Instruction::Other(_) => 0,
-    }
-}
-
-fn has_step(i: Instruction, k: u32, registers: &[u32; 15]) -> bool
-    ensures { λ r. ⌜ r ≡ ltb (suc k) (ownSteps i (now (registers .entry))) ⌝ }
-{
-    k as u64 + 1 < own_steps(i, registers) as u64
-}
-
-// In a step from 2 on.
-fn breaks_rule(i: Instruction, c: Control, registers: &[u32; 15]) -> bool
-    ensures { λ r. ⌜ ((mem : List ℕ) → r ≡ not (eqb (ruleBroken i (stateLater (machine (now (registers .entry)) c mem))) 0)) ⌝ }
-{
-    rule_broken(i, registers, c.flags, behind_later(c.pipe.pc)) != 0
-}
-
-// Step k + 2 of an instruction that meets 22 or 23, lacks that step, or has a word still to be moved outside memory.
-fn bad_within(i: Instruction, k: u32, c: Control, registers: &[u32; 15]) -> bool
-    ensures { λ r. ⌜ ((mem : List ℕ) → r ≡ badWithin i k (machine (now (registers .entry)) c mem)) ⌝ }
-{
-    let board = c.board;
-    is_other(i)
-        | (breaks_rule(i, c, registers)
-            | (!has_step(i, k, registers) | outside(c.latches.address, left_to_move(i, k), board)))
-}
 
 // A blank word has no step 2, nor has one that fails its condition.
 fn bad_step(k: u32, c: Control, registers: &[u32; 15]) -> bool
@@ -87,7 +33,7 @@ fn bad_step(k: u32, c: Control, registers: &[u32; 15]) -> bool
     match ix {
         Fetched::Word(word) => {
             if passes(field(word, 28, 4), c.flags) {
-                bad_within(reader::read(word), k, c, registers)
+                bad_word(word, k, c, registers)
             } else {
                 true
             }
