@@ -1,12 +1,11 @@
 // The own steps of each class (paper 01, the table of "Pipeline").
 ghost use mathlib.Core.Path.{_≡_};
-ghost use Rattle.semantics.specs.Duration.{processingSteps, singleSteps, blockSteps, multiplySteps, ownSteps};
+ghost use Rattle.semantics.specs.Duration.{processingSteps, singleSteps, blockSteps, multiplySteps};
 use multiply::m_of;
 use processing::shifts_by_register;
 use registers::register;
 use transfer::named::count;
 use word::Block;
-use word::Instruction;
 use word::Multiply;
 use word::Processing;
 use word::Single;
@@ -44,17 +43,3 @@ pub const SKIPPED_STEPS: u32 = 1;
 
 // Of a stored counter, after the own steps.
 pub const REFILLS: u32 = 2;
-
-// In the registers as they stand.
-pub fn own_steps(i: Instruction, registers: &[u32; 15]) -> u32
-    ensures { λ r. ⌜ r ≡ ownSteps i (now (registers .entry)) ⌝ }
-{
-    match i {
-        Instruction::Processing(p) => processing_steps(p),
-        Instruction::Single(s) => single_steps(s),
-        Instruction::Block(b) => block_steps(b),
-        Instruction::Branch(_) => BRANCH_STEPS,
-        Instruction::Multiply(m) => multiply_steps(m, registers),
-        Instruction::Other(_) => 1,
-    }
-}

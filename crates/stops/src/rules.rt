@@ -1,16 +1,14 @@
 // The rules of stop 23.
 ghost use mathlib.Core.Path.{_≡_};
-ghost use Rattle.word.specs.declared.Instruction.{Instruction};
 ghost use mathlib.Core.Bool.{_&&_, _||_};
 ghost use Rattle.transfer.specs.Single.{writesBase};
 ghost use Rattle.memory.specs.Memory.{Memory};
 ghost use Rattle.registers.specs.State.{state};
-ghost use Rattle.stops.specs.Rules.{firstBroken, is15, rsIs15, rmIs15, processingRules, singleRules, blockRules, multiplyRules, ruleBroken};
+ghost use Rattle.stops.specs.Rules.{firstBroken, is15, rsIs15, rmIs15, processingRules, singleRules, blockRules, multiplyRules};
 use datapath::alu::stores_result;
 use transfer::named::count;
 use transfer::single::writes_base;
 use word::Block;
-use word::Instruction;
 use word::Multiply;
 use word::Operand;
 use word::Processing;
@@ -112,18 +110,4 @@ pub fn multiply_rule(i: Multiply) -> u32
         return 9;
     }
     if field_is_15(i) { 10 } else { 0 }
-}
-
-// The first rule of 23 that an instruction breaks in a state, or 0.
-pub fn rule_broken(i: Instruction, registers: &[u32; 15], flags: u32, a: u32) -> u32
-    ensures { λ r. ⌜ ((mem : Memory) → r ≡ ruleBroken i (state (now (registers .entry)) flags a mem)) ⌝ }
-{
-    match i {
-        Instruction::Processing(p) => processing_rule(p, registers, flags, a),
-        Instruction::Single(s) => single_rule(s),
-        Instruction::Block(b) => block_rule(b),
-        Instruction::Branch(_) => 0,
-        Instruction::Multiply(m) => multiply_rule(m),
-        Instruction::Other(_) => 0,
-    }
 }
