@@ -1,4 +1,6 @@
 // Arrays of words for C. The array of either machine begins with its registers.
+#![tactic(auto)]
+
 ghost use Rattle.std.specs.Prelude.{◌≡◌, ◌≤◌, length};
 ghost use Rattle.arrays.specs.Words.{registers_of, put};
 

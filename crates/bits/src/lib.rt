@@ -1,4 +1,6 @@
 // Bits and fields of a word, shared by the reader and the datapath. Every place and width is taken.
+#![tactic(auto)]
+
 ghost use Rattle.std.specs.Prelude.{◌≡◌, ◌/◌, ◌%◌, ◌^◌};
 ghost use Rattle.bits.specs.Bits.{field, bit, num};
 

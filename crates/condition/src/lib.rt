@@ -1,4 +1,6 @@
 // The sixteen conditions against the sixteen values of the flags, as one table.
+#![tactic(auto)]
+
 ghost use Rattle.std.specs.Prelude.{◌≡◌, T};
 ghost use Rattle.condition.specs.Condition.{passes};
 ghost use Rattle.condition.specs.Table.{every, right};

@@ -1,4 +1,6 @@
 // A core as an array of words that a caller of C owns, and back.
+#![tactic(auto)]
+
 mod counts;
 mod fetched;
 pub mod packing;

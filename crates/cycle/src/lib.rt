@@ -1,4 +1,6 @@
 // A cycle of the core: its record but the registers, the stop found before step 1, the cycle, and what a start hands back.
+#![tactic(auto)]
+
 pub mod cycle;
 pub mod fresh;
 mod own;

@@ -1,4 +1,6 @@
 // The datapath: the shifter, the ALU, and the program counter (paper 01, "Shifts", "Operations 0-15", "R15 read").
+#![tactic(auto)]
+
 pub mod alu;
 pub mod counter;
 pub mod shifter;

@@ -1,5 +1,7 @@
 // Memory as a board answers: what is fetched, read and written at an address, over a lent slice. Every address is taken: one
 // outside reads as 0 or blank, and a write there does nothing.
+#![tactic(auto)]
+
 ghost use Rattle.std.specs.Prelude.{◌≡◌};
 ghost use Rattle.memory.specs.Memory.{memory_of, place, limit, read_word, write_word, read_byte, write_byte, word_at};
 

@@ -1,4 +1,6 @@
 // Multiply (paper 02 §1): the product, what it leaves in the registers and the flags, and its internal cycles.
+#![tactic(auto)]
+
 ghost use Rattle.std.specs.Prelude.{◌≡◌};
 ghost use Rattle.registers.specs.declared.Goes.TheVariants.{Next};
 ghost use Rattle.registers.specs.Registers.{out};

@@ -1,4 +1,6 @@
 // The pipelined core: its record and its calls: a start, a run, settle, and a cycle.
+#![tactic(auto)]
+
 ghost use Rattle.std.specs.Prelude.{◌≡◌, length};
 ghost use Rattle.cycle.specs.Machine.{machine};
 ghost use Rattle.pipeline.specs.Calls.{zeroed, start, run};

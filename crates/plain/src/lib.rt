@@ -1,4 +1,6 @@
 // The plain machine (the paper's term): one instruction after the other, with no pipeline.
+#![tactic(auto)]
+
 ghost use Rattle.std.specs.Prelude.{◌≡◌};
 ghost use Rattle.plain.specs.Machine.{machine};
 ghost use Rattle.plain.specs.Run.{zeroed, start, run};

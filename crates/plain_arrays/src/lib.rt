@@ -1,4 +1,6 @@
 // A plain machine's record as an array of words that a caller of C owns, and back.
+#![tactic(auto)]
+
 ghost use Rattle.std.specs.Prelude.{◌≡◌};
 ghost use Rattle.plain_arrays.specs.PlainArray.{packed, unpacked};
 

@@ -1,4 +1,6 @@
 // Reads cases of the plain machine from standard input and prints the whole state that each leaves.
+#![tactic(auto)]
+
 mod case;
 mod state;
 

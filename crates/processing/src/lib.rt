@@ -1,4 +1,6 @@
 // Data processing: the operand, and what an instruction leaves in the registers, the flags and the counter.
+#![tactic(auto)]
+
 ghost use Rattle.std.specs.Prelude.{◌≡◌};
 ghost use Rattle.registers.specs.Registers.{out};
 ghost use Rattle.datapath.specs.Alu.{operate, carry_of, overflow_of};

@@ -1,4 +1,6 @@
 // A word's record as an array of words that a caller of C owns, and back.
+#![tactic(auto)]
+
 mod operand;
 pub mod packing;
 pub mod standing;

@@ -1,3 +1,5 @@
 // What makes a record bad, and what a run refuses with.
+#![tactic(auto)]
+
 pub mod numbers;
 mod under_way;

@@ -1,4 +1,6 @@
 // The registers R0 to R14, lent as an array; what R15 reads as is lent beside them.
+#![tactic(auto)]
+
 ghost use Rattle.std.specs.Prelude.{◌≡◌};
 ghost use Rattle.registers.specs.Registers.{register, put, out, arrives};
 

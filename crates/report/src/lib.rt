@@ -1,4 +1,6 @@
 // The report program's text: an image is run from 0 with a budget of 64, and the core is told line by line.
+#![tactic(auto)]
+
 mod lines;
 
 ghost use Rattle.std.specs.Prelude.{◌≡◌, length};

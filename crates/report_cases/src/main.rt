@@ -1,4 +1,6 @@
 // Reads images from standard input as cases and prints the report of each.
+#![tactic(auto)]
+
 use tokens::{buffer, print, token};
 
 fn main() {

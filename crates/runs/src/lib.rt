@@ -1,4 +1,6 @@
 // Cycles until the budget is spent or a stop is found, and the quick road by whole instructions.
+#![tactic(auto)]
+
 pub mod left;
 mod quick;
 pub mod run;

@@ -1,4 +1,6 @@
 // What both engines share of a whole instruction: its stop, its effect and its duration.
+#![tactic(auto)]
+
 pub mod branch;
 pub mod duration;
 pub mod own_steps;

@@ -1,4 +1,6 @@
 // The machines as a library for C: calls on numbers and lent arrays. An array holds a core, a plain machine or a word's record.
+#![tactic(auto)]
+
 mod abi;
 mod core_calls;
 mod plain_calls;

@@ -1,5 +1,7 @@
 // The report program: reads an image from standard input, runs it, and writes the report. The buffer is longer than any
 // image, so that a longer input shows.
+#![tactic(auto)]
+
 use libc::STDIN_FILENO;
 
 fn main() {

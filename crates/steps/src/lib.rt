@@ -1,4 +1,6 @@
 // What an instruction does in each of its own steps, besides the fetch. Registers and memory are lent, the rest goes by value.
+#![tactic(auto)]
+
 mod blocks;
 pub mod ending;
 pub mod first;

@@ -1,4 +1,6 @@
 // Which stop an instruction meets: the rules of 23, the addresses that are moved, and 21 to 25 in their order.
+#![tactic(auto)]
+
 pub mod rules;
 pub mod span;
 pub mod stop;

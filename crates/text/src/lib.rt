@@ -1,5 +1,7 @@
 // Text put into a lent buffer of 512 bytes, piece after piece. Each call takes the place where the text ends and hands
 // back where it ends then; what does not fit is left out, so that callers owe no proof of room.
+#![tactic(auto)]
+
 pub mod digit;
 
 ghost use Rattle.std.specs.Prelude.{◌≡◌};

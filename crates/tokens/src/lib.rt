@@ -1,4 +1,6 @@
 // Cases as tokens: reading them from standard input and printing what they leave, which the programs of vectors share.
+#![tactic(auto)]
+
 pub mod buffer;
 pub mod print;
 pub mod token;

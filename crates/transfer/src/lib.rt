@@ -1,4 +1,6 @@
 // Single and block transfers: addresses, bases, and what is moved.
+#![tactic(auto)]
+
 pub mod block;
 pub mod named;
 pub mod single;

@@ -1,4 +1,6 @@
 // Words and records: every 32-bit word as a record of its fields.
+#![tactic(auto)]
+
 pub mod reader;
 
 // The second operand of a data processing instruction, and the offset of a single transfer.

@@ -1,4 +1,6 @@
 // Reads words from standard input and prints for each its record and the word that the record is written as.
+#![tactic(auto)]
+
 mod record;
 
 use tokens::token;

@@ -1,4 +1,6 @@
 // The writer: a record as its word, fields put one behind the other from the highest to the lowest.
+#![tactic(auto)]
+
 ghost use Rattle.std.specs.Prelude.{◌≡◌, ◌<◌};
 ghost use Rattle.bits.specs.Bits.{num};
 ghost use Rattle.writer.specs.Fields.{put, packed};
