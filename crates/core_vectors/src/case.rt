@@ -6,7 +6,7 @@ use core_arrays::unpacking::unpacked;
 use pipeline::{Core, CoreRan, CoreStarted};
 use tokens::{buffer, print, token};
 
-#[derive(Drop)]
+#[derive(Clone, Copy)]
 struct Case {
     mode: u32,
     length: u32,

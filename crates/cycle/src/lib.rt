@@ -10,7 +10,7 @@ use memory::{Board, Fetched};
 use steps::{Latches, Phase};
 
 // The counter and the words fetched. IX holds the word of the instruction under way.
-#[derive(Drop)]
+#[derive(Clone, Copy)]
 pub struct Pipe {
     pub pc: u32,
     pub ir1: Fetched,
@@ -18,14 +18,14 @@ pub struct Pipe {
     pub ix: Fetched,
 }
 
-#[derive(Drop)]
+#[derive(Clone, Copy)]
 pub struct Counts {
     pub cycles: u64,
     pub retired: u64,
 }
 
 // All of the core but its registers.
-#[derive(Drop)]
+#[derive(Clone, Copy)]
 pub struct Control {
     pub flags: u32,
     pub pipe: Pipe,

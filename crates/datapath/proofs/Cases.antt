@@ -2,7 +2,6 @@
 -- Assumes nothing.
 use Rattle.std.proofs.Common.{◌≡◌, ℕ, ◌+◌, ◌≤◌, Bool, ◌≢◌, ◌⊎◌, sym, inl, inr, eq-or-lt_of_le, arith}
 use lib.ListN.{get_or-eq_default}
-use borrow.Author.Rules.{zero≤}
 use Rattle.datapath.specs.Alu.{computed, inverted, operate}
 
 -- by cases, the sum first
@@ -25,7 +24,7 @@ Rest op = ((((((((((Unit × Neither op 0 8) × Neither op 1 9) × Neither op 2 1
 pub mvn : {op : ℕ} → Rest op → (a b : ℕ) (s c v : Bool) → operate op a b s c v ≡ computed (inverted b) s v
 unfolding operate
 mvn (((((((((((_, and), eor), sub), rsb), add), adc), sbc), rsc), orr), mov), bic) a b s c v =
-    let low = five 0 zero≤ (λ e. and (inl e)) (λ e. eor (inl e)) (λ e. sub (inl e)) rsb (λ e. add (inl e)) in
+    let low = five 0 (omega arith) (λ e. and (inl e)) (λ e. eor (inl e)) (λ e. sub (inl e)) rsb (λ e. add (inl e)) in
     let mid = five 5 low adc sbc rsc (λ e. and (inr e)) (λ e. eor (inr e)) in
     let high = five 10 mid (λ e. sub (inr e)) (λ e. add (inr e)) orr mov bic in
     either (eq-or-lt_of_le high) (λ e. simp (sym e)) (λ l. simp get_or-eq_default)

@@ -7,14 +7,14 @@ pub mod shifter;
 pub mod value;
 
 // A value out of the shifter, and its carry out.
-#[derive(Drop)]
+#[derive(Clone, Copy)]
 pub struct Shifted {
     pub value: u32,
     pub carry: bool,
 }
 
 // A result of the ALU, and the C and V that go with it into the flags.
-#[derive(Drop)]
+#[derive(Clone, Copy)]
 pub struct Computed {
     pub value: u32,
     pub carry: bool,

@@ -8,13 +8,13 @@ ghost use Rattle.memory.specs.Memory.{memory_of, place, limit, read_word, write_
 pub mod bytes;
 
 // What the memory is built into: its size in bytes.
-#[derive(Drop)]
+#[derive(Clone, Copy)]
 pub struct Board {
     pub size: u32,
 }
 
 // What a fetch finds.
-#[derive(Drop)]
+#[derive(Clone, Copy)]
 pub enum Fetched {
     Word(u32),
     Blank,

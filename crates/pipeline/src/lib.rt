@@ -16,20 +16,20 @@ use runs::left::cycles_left;
 use runs::run::run_from;
 use steps::Phase;
 
-#[derive(Drop)]
+#[derive(Clone, Copy)]
 pub struct Core {
     pub registers: [u32; 15],
     pub control: Control,
 }
 
-#[derive(Drop)]
+#[derive(Clone, Copy)]
 pub struct CoreStarted {
     pub answer: u32,
     pub core: Core,
 }
 
 // What a run hands back: its answer, the cycles it used, and the core.
-#[derive(Drop)]
+#[derive(Clone, Copy)]
 pub struct CoreRan {
     pub answer: u32,
     pub used: u64,

@@ -14,7 +14,7 @@ use memory::Board;
 use numbers::{refusal, start_answer};
 use whole::{LONGEST, wholes};
 
-#[derive(Drop)]
+#[derive(Clone, Copy)]
 pub struct Plain {
     pub registers: [u32; 15],
     pub a: u32,
@@ -23,13 +23,13 @@ pub struct Plain {
     pub board: Board,
 }
 
-#[derive(Drop)]
+#[derive(Clone, Copy)]
 pub struct PlainStarted {
     pub answer: u32,
     pub plain: Plain,
 }
 
-#[derive(Drop)]
+#[derive(Clone, Copy)]
 pub struct PlainRan {
     pub answer: u32,
     pub done: u64,
@@ -37,7 +37,7 @@ pub struct PlainRan {
 }
 
 // Where whole instructions came to: the stop met or 0, and how many they were, in how many cycles.
-#[derive(Drop)]
+#[derive(Clone, Copy)]
 pub struct Came {
     pub stop: u32,
     pub flags: u32,

@@ -4,7 +4,7 @@ use memory::Board;
 use plain::{Plain, PlainStarted};
 use tokens::{buffer, print, token};
 
-#[derive(Drop)]
+#[derive(Clone, Copy)]
 struct Case {
     mode: u32,
     length: u32,

@@ -17,7 +17,7 @@ use registers::{Goes, Outcome, arrive, register};
 use word::{Operand, Processing};
 
 // An operand's value alone, and what R15 reads as beside it.
-#[derive(Drop)]
+#[derive(Clone, Copy)]
 pub struct Taken {
     pub value: u32,
     pub pc: u32,

@@ -9,7 +9,7 @@ pub mod unpacking;
 pub type RecordArray = [u32; 16];
 
 // An operand's kind and fields as four words.
-#[derive(Drop)]
+#[derive(Clone, Copy)]
 pub struct Quad {
     pub kind: u32,
     pub first: u32,

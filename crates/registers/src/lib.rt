@@ -5,14 +5,14 @@ ghost use Rattle.std.specs.Prelude.{◌≡◌};
 ghost use Rattle.registers.specs.Registers.{register, put, out, arrives};
 
 // Where the counter goes after an instruction: on, or to bits 25..2 of a stored word.
-#[derive(Drop)]
+#[derive(Clone, Copy)]
 pub enum Goes {
     Next,
     To(u32),
 }
 
 // What an instruction leaves beside the registers.
-#[derive(Drop)]
+#[derive(Clone, Copy)]
 pub struct Outcome {
     pub flags: u32,
     pub goes: Goes,

@@ -8,7 +8,7 @@ pub mod run;
 use cycle::Control;
 
 // What a run hands back but the registers, which are lent: its answer, the cycles it used, and the rest of the core.
-#[derive(Drop)]
+#[derive(Clone, Copy)]
 pub struct ControlRan {
     pub answer: u32,
     pub used: u64,
@@ -16,7 +16,7 @@ pub struct ControlRan {
 }
 
 // A core under way, and the cycles used to come there.
-#[derive(Drop)]
+#[derive(Clone, Copy)]
 pub struct Advanced {
     pub used: u64,
     pub control: Control,

@@ -7,7 +7,7 @@ pub mod own_steps;
 pub mod perform;
 
 // What came of an instruction beside registers and memory: the stop met, or 0; the flags; the address of the next instruction, after a stop its own; the cycles taken.
-#[derive(Drop)]
+#[derive(Clone, Copy)]
 pub struct Performed {
     pub stop: u32,
     pub flags: u32,

@@ -7,7 +7,7 @@ pub mod first;
 pub mod later;
 
 // What the next cycle does. Steps 2 and later are counted from 0.
-#[derive(Drop)]
+#[derive(Clone, Copy)]
 pub enum Phase {
     Step1,
     Refill1,
@@ -16,7 +16,7 @@ pub enum Phase {
 }
 
 // What ended: the start, with its refills; an instruction whose condition failed; or one that was executed.
-#[derive(Drop)]
+#[derive(Clone, Copy)]
 pub enum Ended {
     Start,
     Skipped,
@@ -24,7 +24,7 @@ pub enum Ended {
 }
 
 // How a cycle ends: the instruction goes on in a phase; it is done; or it stored the counter.
-#[derive(Drop)]
+#[derive(Clone, Copy)]
 pub enum After {
     More(Phase),
     Done(Ended),
@@ -32,7 +32,7 @@ pub enum After {
 }
 
 // The next address to be moved, the data latch, and the written-back base; one that no step left needs is 0.
-#[derive(Drop)]
+#[derive(Clone, Copy)]
 pub struct Latches {
     pub address: u32,
     pub datum: u32,
@@ -40,7 +40,7 @@ pub struct Latches {
 }
 
 // What a step leaves beside the registers and the memory, which are lent.
-#[derive(Drop)]
+#[derive(Clone, Copy)]
 pub struct Step {
     pub flags: u32,
     pub latches: Latches,

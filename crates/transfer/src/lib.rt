@@ -6,7 +6,7 @@ pub mod named;
 pub mod single;
 
 // Where a single transfer goes: its changed base, and its address.
-#[derive(Drop)]
+#[derive(Clone, Copy)]
 pub struct Reach {
     pub base: u32,
     pub address: u32,

@@ -14,7 +14,7 @@ use word::{Block, Branch, Instruction, Multiply, Operand, Processing, Single};
 pub const NO_WORD_FOR: u32 = 5;
 
 // A writer's answer: the word, or a refusal, which has that number.
-#[derive(Drop)]
+#[derive(Clone, Copy)]
 pub enum Written {
     Word(u32),
     Refused,

@@ -1,0 +1,7 @@
+use Rattle.std.proofs.Common.{rules}
+use Rattle.datapath.specs.Counter.{ahead, behind}
+use Rattle.datapath.proofs.counter.behind.Goals as goal
+
+pub returns : goal.returns
+unfolding behind ahead
+returns c = c.ahead.ensures

@@ -1,0 +1,16 @@
+use Rattle.std.proofs.Common.{◌≤◌, arith, rules}
+use lib.ListN.{get_or-eq_default}
+use Rattle.datapath.proofs.shifter.zero_amount.Goals as goal
+
+pub returns-in-0 : goal.returns-in-0
+returns-in-0 c = simp c.in-0.is
+
+pub returns-in-1 : goal.returns-in-1
+returns-in-1 c = simp (c.lsr.ensures, c.in-1.is)
+
+pub returns-in-2 : goal.returns-in-2
+returns-in-2 c = simp (c.asr.ensures, c.in-2.is)
+
+pub returns-in_default : goal.returns-in_default
+returns-in_default c =     let l : 3 ≤ c.args.kind = omega arith in
+    simp (c.bit.ensures, c.through_carry.ensures, get_or-eq_default)

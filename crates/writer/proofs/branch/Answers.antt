@@ -1,0 +1,6 @@
+use Rattle.writer.specs.Writer.{written}
+use Rattle.writer.proofs.branch.Goals as goal
+
+pub returns : goal.returns
+unfolding written
+returns c = simp (c.put.ensures, c.flag.ensures, c.head.ensures)
