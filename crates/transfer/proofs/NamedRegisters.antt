@@ -171,10 +171,11 @@ from-rising (suc k) n x = go (from-rising k (suc n) (x / 2)) (parity x)
   where
     go : Rising (suc n + k) (suc n) (named_from k (suc n) (x / 2)) → Parity x → Rising (n + suc k) n (named_from (suc k) n x)
     go rest p =
-        let e : n + suc k ≡ suc n + k = omega arith in
+        let e : suc n + k ≡ n + suc k = omega arith in
+        let more : Rising (n + suc k) (suc n) (named_from k (suc n) (x / 2)) = subst (λ m. Rising m (suc n) (named_from k (suc n) (x / 2))) e rest in
         ⊎_elim
-        (λ (even : x % 2 ≡ 0). rw (from-even k n x even, e) (rising_down (suc n + k) n (named_from k (suc n) (x / 2)) rest))
-        (λ (odd : x % 2 ≡ 1). rw (from-odd k n x odd, e) (omega arith, omega arith, rest))
+        (λ (even : x % 2 ≡ 0). rw (from-even k n x even) (rising_down (n + suc k) n (named_from k (suc n) (x / 2)) more))
+        (λ (odd : x % 2 ≡ 1). rw (from-odd k n x odd) (omega arith, omega arith, more))
         p
 
 pub named-rising : (list : ℕ) → Rising 16 0 (named list)
