@@ -1,6 +1,6 @@
 -- A register stands among the named ones at the count of those below it, exactly where its bit is set.
 -- Assumes nothing.
-use Rattle.std.proofs.Common.{◌≡◌, ℕ, zero, suc, ◌+◌, ◌/◌, ◌%◌, ◌^◌, ◌<◌, true, false, ◌≢◌, List, [], ◌∷◌, length, get_or, sym, refl, ap, ◌∙◌, inl, inr, add-zero, zero-add, div-one, one-add, arith, shr-shr, eqb-true}
+use Rattle.std.proofs.Common.{◌≡◌, ℕ, zero, suc, ◌+◌, ◌/◌, ◌%◌, ◌^◌, ◌<◌, true, false, ◌≢◌, List, [], ◌∷◌, length, get_or, sym, subst, refl, ap, ◌∙◌, inl, inr, add-zero, zero-add, div-one, one-add, arith, shr-shr, eqb-true}
 use lib.Count.{ones, ones_in, ones_step}
 use borrow.Author.Tests.{eqb-false}
 use Rattle.bits.specs.Bits.{bit, field}
@@ -68,12 +68,12 @@ from-absent (suc k) n x zero h e =
 from-absent (suc k) n x (suc j) h e =
     go (from-absent k (suc n) (x / 2) j (omega arith) (λ d. e (digit-suc x j ∙ d))) (parity x)
   where
-    same : n + suc j ≡ suc n + j
+    same : suc n + j ≡ n + suc j
     same = omega arith
 
     go : Absent (suc n + j) (named_from k (suc n) (x / 2)) → Parity x → Absent (n + suc j) (named_from (suc k) n x)
-    go rest (inl e) = rw (from-even k n x e, same) rest
-    go rest (inr e) = rw (from-odd k n x e, same) (λ d. omega arith, rest)
+    go rest (inl e) = rw (from-even k n x e) (subst (λ m. Absent m (named_from k (suc n) (x / 2))) same rest)
+    go rest (inr e) = rw (from-odd k n x e) (λ d. omega arith, subst (λ m. Absent m (named_from k (suc n) (x / 2))) same rest)
 
 pub named-absent : (list x : ℕ) → x < 16 → bit list x ≡ false → Absent x (named list)
 unfolding bit field named

@@ -1,6 +1,6 @@
 -- The laws of the named registers: how many there are, which is the lowest, what is left without it, and that they rise.
 -- Assumes nothing.
-use Rattle.std.proofs.Common.{◌≡◌, ℕ, zero, suc, ◌+◌, ◌-◌, ◌*◌, ◌/◌, ◌%◌, ◌^◌, ◌<◌, ◌≤◌, ◌⊎◌, List, [], ◌∷◌, length, get_or, drop, sym, refl, ap, ◌∙◌, inl, inr, ⊎_elim, add-zero, mod-eq_of_lt, mul_assoc, mul_comm, eq-zero-or-pos, add_comm, one-mul, pow-suc, mul-zero, zero-add, mul-suc, add-one, arith, eq-eqb, ne_eqb}
+use Rattle.std.proofs.Common.{◌≡◌, ℕ, zero, suc, ◌+◌, ◌-◌, ◌*◌, ◌/◌, ◌%◌, ◌^◌, ◌<◌, ◌≤◌, ◌⊎◌, List, [], ◌∷◌, length, get_or, drop, sym, subst, refl, ap, ◌∙◌, inl, inr, ⊎_elim, add-zero, mod-eq_of_lt, mul_assoc, mul_comm, eq-zero-or-pos, add_comm, one-mul, pow-suc, mul-zero, zero-add, mul-suc, add-one, arith, eq-eqb, ne_eqb}
 use mathlib.Core.List.{tail}
 use lib.Count.{ones_in, ones, ones_step, count_trailing_zeros}
 use lib.Seq.{drop-nil}

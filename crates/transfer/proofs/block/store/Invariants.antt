@@ -1,0 +1,17 @@
+-- The loop's invariant: storing what is left from here on is storing the whole list. The measure is how many are left.
+-- Assumes nothing.
+use Rattle.std.proofs.Common.{◌≡◌, ◌<◌, length, sym, refl, ◌∙◌, arith, rules}
+use Rattle.memory.specs.Memory.{memory_of}
+use Rattle.transfer.specs.Block.{named, stores}
+use Rattle.transfer.proofs.NamedRegisters.{tail-length}
+use Rattle.transfer.proofs.Moves.{stores-none, stores-step}
+use Rattle.transfer.proofs.block.store.Given as goal
+
+abbrev pub invariant-loop-n : goal.invariant-loop-n
+invariant-loop-n l =
+    (stores (named l.left) l.registers l.flags l.a12 l.at (memory_of l.board l.memory) ≡ stores (named l.list) l.registers l.flags l.a12 l.address (memory_of l.board l.initial.memory))
+    × (l.n ≡ length (named l.left))
+    × (length l.memory ≡ length l.initial.memory)
+
+abbrev pub decreases-loop-n : goal.decreases-loop-n
+decreases-loop-n l = l.n
