@@ -2,5 +2,5 @@ pub mod Spans
 pub mod Marked
 pub mod BrokenRules
 pub mod StopOrder
-pub mod Hidden
+pub mod HiddenStops
 pub mod Joins
