@@ -1,12 +1,12 @@
-use Rattle.std.proofs.Common.{rules, ◌≡◌, ℕ, ◌+◌, ◌-◌, ◌*◌, ◌<◌, ◌≤◌, length, ◌/◌, ◌%◌, Bool, true, false, nat_eq, nat_lt, List, [], ◌∷◌, ◌++◌, slice_index_or, slice_set, bit_and, bit_or, Fits, w8, w32, w64, Bor, MutBor}
-use Rattle.text.specs.Text.{hex_digits, decimal}
-use Rattle.text.specs.Output.{output, put_byte, put}
+use borrow.Author.Tests.{lt-ltb, le-ltb}
+use Rattle.text.specs.Output.{put}
+use Rattle.text.proofs.Put.{put-snoc}
+use Rattle.text.proofs.Digits.{decimal-tens}
 use Rattle.text.proofs.+decimal.Goals as goal
 
--- src/lib.rt:47:9
 pub returns-then-n-lt10 : goal.returns-then-n-lt10
-returns-then-n-lt10 t c = ?
+unfolding put
+returns-then-n-lt10 t c = rw (decimal-tens _ c.ranges.n.fits, lt-ltb _ _ c.if-n-lt10.true, ← c.byte_of.ensures) c.byte.ensures
 
--- src/lib.rt:43:1
 pub returns : goal.returns
-returns t c = ?
+returns t c = rw (decimal-tens _ c.ranges.n.fits, le-ltb _ _ c.if-n-lt10.false, put-snoc, ← c.decimal-end.ensures, ← c.byte_of-2.ensures) c.byte-2.ensures

@@ -1,8 +1,5 @@
-use Rattle.std.proofs.Common.{◌≡◌, ℕ, ◌+◌, ◌-◌, ◌*◌, ◌<◌, ◌≤◌, length}
-use Rattle.text.specs.Text.{hex_digits, decimal}
-use Rattle.text.specs.Output.{output, put_byte, put}
+-- A decimal number: all digits but the last by the call of itself, then the last. The measure is the number. Assumes nothing.
 use Rattle.text.proofs.+decimal.Given as goal
 
--- proposed from what the function passes where it calls itself
 abbrev pub decreases-decimal : goal.decreases-decimal
 decreases-decimal l = l.n

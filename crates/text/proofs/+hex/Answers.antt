@@ -1,16 +1,13 @@
-use Rattle.std.proofs.Common.{rules, ◌≡◌, ℕ, ◌+◌, ◌-◌, ◌*◌, ◌<◌, ◌≤◌, length, ◌/◌, ◌%◌, Bool, true, false, nat_eq, nat_lt, List, [], ◌∷◌, ◌++◌, slice_index_or, slice_set, bit_and, bit_or, Fits, w8, w32, w64, Bor, MutBor}
-use Rattle.text.specs.Text.{hex_digits, decimal}
-use Rattle.text.specs.Output.{output, put_byte, put}
+use Rattle.std.proofs.Common.{arith}
+use Rattle.text.specs.Text.{hex_digits}
+use Rattle.text.specs.Output.{put}
+use Rattle.text.proofs.Put.{put-snoc}
+use Rattle.text.proofs.Digits.{hex-last}
 use Rattle.text.proofs.+hex.Goals as goal
 
--- src/lib.rt:37:9
 pub returns-then-digits-eq0 : goal.returns-then-digits-eq0
-returns-then-digits-eq0 t c = ?
+unfolding put hex_digits
+returns-then-digits-eq0 t c = rw c.if-digits-eq0.true
 
--- src/lib.rt:39:9
-pub hex-end-requires : goal.hex-end-requires
-hex-end-requires t c = ?
-
--- src/lib.rt:33:1
 pub returns : goal.returns
-returns t c = ?
+returns t c = rw (hex-last _ _ c.if-digits-eq0.false, put-snoc, ← c.hex-end.ensures, ← c.byte_of.ensures) c.byte.ensures

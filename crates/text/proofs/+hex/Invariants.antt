@@ -1,8 +1,5 @@
-use Rattle.std.proofs.Common.{◌≡◌, ℕ, ◌+◌, ◌-◌, ◌*◌, ◌<◌, ◌≤◌, length}
-use Rattle.text.specs.Text.{hex_digits, decimal}
-use Rattle.text.specs.Output.{output, put_byte, put}
+-- A hexadecimal number: all digits but the last by the call of itself, then the last. The measure is the count of digits. Assumes nothing.
 use Rattle.text.proofs.+hex.Given as goal
 
--- proposed from what the function passes where it calls itself
 abbrev pub decreases-hex : goal.decreases-hex
-decreases-hex l = l.n
+decreases-hex l = l.digits

@@ -1,0 +1,16 @@
+-- The loop's invariant: what is left of both budgets, from here, comes to the whole. Assumes nothing.
+use Prim.Native.Nat.{◌-◌}
+use mathlib.Core.Path.{◌≡◌, refl, ◌∙◌}
+use native.Mathlib.Omega.{arith}
+use lib.ListN.{length}
+use Rattle.plain.specs.Whole.{wholes, going}
+use Rattle.plain.proofs.WholeSteps.{Left, left-start, left_step, left-stop, left_over, left-more, left-cycles, stop-told, cycles-told, step-told, goes-told}
+use Rattle.plain.proofs.whole.wholes.Given as goal
+
+abbrev pub invariant-loop-done : goal.invariant-loop-done
+invariant-loop-done l =
+    Left l.count l.budget (wholes l.count l.budget (going l.initial.registers l.flags l.a l.board l.initial.memory)) l.done l.left (going l.registers l.status l.here l.board l.memory)
+    × (length l.memory ≡ length l.initial.memory)
+
+abbrev pub decreases-loop-done : goal.decreases-loop-done
+decreases-loop-done l = l.count - l.done

@@ -1,0 +1,7 @@
+use Rattle.semantics.specs.Branch.{branched}
+use Rattle.std.proofs.Common.{rules}
+use Rattle.semantics.proofs.branch.branch.Goals as goal
+
+pub returns : goal.returns
+unfolding branched
+returns c = simp (c.target-to.ensures, c.link.ensures)

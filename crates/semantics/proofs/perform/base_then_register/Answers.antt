@@ -1,0 +1,5 @@
+use Rattle.std.proofs.Common.{rules}
+use Rattle.semantics.proofs.perform.base_then_register.Goals as goal
+
+pub returns : goal.returns
+returns c = record { registers = cc; flags = cc; goes = cc }

@@ -1,0 +1,12 @@
+use Rattle.semantics.proofs.Durations.{single-short}
+use Rattle.semantics.proofs.Results.{whole, load_done}
+use Rattle.std.proofs.Common.{rules}
+use Rattle.semantics.proofs.perform.load.Goals as goal
+
+pub done-requires : goal.done-requires
+done-requires c = rw c.single_steps-steps.ensures (single-short c.args.i)
+
+pub returns : goal.returns
+returns c =
+    rw (← c.single_steps-steps.ensures)
+    (load_done _ _ _ c.requires.0 c.requires.1 c.loaded_value-value.ensures c.done.ensures (whole c.base_then_register.ensures))
