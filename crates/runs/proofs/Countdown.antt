@@ -87,7 +87,7 @@ load-refills i k x g f v mem d = arriving g f x v ∙ sym (last-loaded f mem (bl
 
 processing-less : (i : Processing) (k : ℕ) (g : List ℕ) (f pc : ℕ) (mem : Memory) → k < extra (Instruction.Processing i) g → LessOwn (Instruction.Processing i) k g (last (processed i g f pc) mem)
 processing-less i k g f pc mem h =
-    last_less (Instruction.Processing i) k g _ (processed i g f pc).goes (go (by_register? i.operand) h) (processed-refills i g f pc)
+    last_less (Instruction.Processing i) k g (last (processed i g f pc) mem) (processed i g f pc).goes (go (by_register? i.operand) h) (processed-refills i g f pc)
   where
     go : (b : Bool) → k < pick b 1 0 → pick b 1 0 ≡ suc k
     go true h = omega arith
@@ -98,7 +98,7 @@ single-load-less : (i : Single) → i.l ≡ true → (k : ℕ) (g : List ℕ) (f
 unfolding load_later own_steps stores_counter
 single-load-less i e zero g f l mem h = (refl, refl)
 single-load-less i e (suc k) g f l mem h =
-    last_less (Instruction.Single i) (suc k) g _ (arrives g f i.rd l.datum).goes (rw e (let h₂ = rw e at h in omega arith)) (rw e (arriving g f i.rd l.datum))
+    last_less (Instruction.Single i) (suc k) g (load_later i (suc k) g f l mem) (arrives g f i.rd l.datum).goes (rw e (let h₂ = rw e at h in omega arith)) (rw e (arriving g f i.rd l.datum))
 
 single-store-less : (i : Single) → i.l ≡ false → (k : ℕ) (g : List ℕ) (f : ℕ) (l : Latches) (mem : Memory) → k < extra (Instruction.Single i) g
     → LessOwn (Instruction.Single i) k g (store_later i g f l mem)
@@ -111,7 +111,7 @@ unfolding load_step own_steps stores_counter
 load-less i e k g f l mem h [] d = absurd (omega (arith, drop-none (block.named i.list) k d))
 load-less i e k g f l mem h (x ∷ []) d =
     let c = drop-count (block.named i.list) k x [] d in
-    last_less (Instruction.Block i) (suc k) g _ (arrives g f x l.datum).goes (rw e (omega (arith, c))) (rw e (load-refills i k x g f l.datum mem d))
+    last_less (Instruction.Block i) (suc k) g (load_step k (x ∷ []) g f l mem) (arrives g f x l.datum).goes (rw e (omega (arith, c))) (rw e (load-refills i k x g f l.datum mem d))
 load-less i e k g f l mem h (x ∷ (y ∷ ys)) d = (refl, refl)
 
 block-load-less : (i : Block) → i.l ≡ true → (k : ℕ) (g : List ℕ) (f : ℕ) (l : Latches) (mem : Memory) → k < extra (Instruction.Block i) g

@@ -1,0 +1,18 @@
+-- The loop's invariant: what is left of the budget, run from here, is the run. Assumes nothing.
+use mathlib.Core.Path.{◌≡◌, refl, sym, ◌∙◌}
+use native.Mathlib.Omega.{arith}
+use Prim.Native.Nat.{◌-◌}
+use lib.ListN.{length}
+use Rattle.cycle.specs.Machine.{machine}
+use Rattle.plain.proofs.Running as running
+use Rattle.runs.specs.Run.{engine}
+use Rattle.runs.proofs.RunLoop.{Left, left-start, left_step}
+use Rattle.runs.proofs.QuickRoad.{left-skip}
+use Rattle.runs.proofs.run.run_from.Given as goal
+
+abbrev pub invariant-loop-used : goal.invariant-loop-used
+invariant-loop-used l =
+    Left l.budget (machine l.initial.registers l.initial.at l.initial.memory) l.used (machine l.registers l.at l.memory) × (length l.memory ≡ length l.initial.memory)
+
+abbrev pub decreases-loop-used : goal.decreases-loop-used
+decreases-loop-used l = l.budget - l.used
