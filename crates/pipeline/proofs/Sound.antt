@@ -148,7 +148,7 @@ module _ (n : Board) (short : n.size ≤ most_bytes) where
     where
       go : (t : Bool) → by_register? i.operand ≡ t → OkOwn (Instruction.Processing i) s.status n (first_step (Instruction.Processing i) s.registers s.status pc s.memory)
       go true t = rw t (record { known = refl; allowed = in-every _ s q.allowed; has = rw t (omega arith); inside = refl }, refl)
-      go false t = rw t (ends-ok (Instruction.Processing i) s.status n _ (processed i s.registers s.status pc).goes)
+      go false t = rw t (ends-ok (Instruction.Processing i) s.status n (last (processed i s.registers s.status pc) s.memory) (processed i s.registers s.status pc).goes)
   first-ok (Instruction.Single i) s pc b q e =
       (record { known = refl; allowed = in-every _ s q.allowed; has = single-has i s.registers; inside = rw (e, b) at q.inside }, refl)
   first-ok (Instruction.Block i) s pc b q e =
@@ -157,7 +157,7 @@ module _ (n : Board) (short : n.size ≤ most_bytes) where
       let z : block.count i - 0 ≡ block.count i = omega arith in
       let inside = rw (from-span (block.named i.list) (block.lowest_address i s.registers), b) at q.inside in
       (record { known = refl; allowed = in-every _ s q.allowed; has = block-has i 0 s.registers (omega arith); inside = rw z inside }, refl)
-  first-ok (Instruction.Branch i) s pc b q e = ends-ok (Instruction.Branch i) s.status n _ (branched i s.registers s.status (behind pc 8)).goes
+  first-ok (Instruction.Branch i) s pc b q e = ends-ok (Instruction.Branch i) s.status n (last (branched i s.registers s.status (behind pc 8)) s.memory) (branched i s.registers s.status (behind pc 8)).goes
   first-ok (Instruction.Multiply i) s pc b q e =
       (record { known = refl; allowed = in-every _ s q.allowed; has = (m-bounds (rs_of i s.registers)).0; inside = refl }, refl)
   first-ok (Instruction.Other w) s pc b q e = tt
@@ -169,7 +169,7 @@ module _ (n : Board) (short : n.size ≤ most_bytes) where
       → (r : List ℕ) → drop k (block.named i.list) ≡ r → OkOwn (Instruction.Block i) f n (load_step k r g f l mem)
   unfolding load_step
   load_ok i e k g f l mem m [] d = tt
-  load_ok i e k g f l mem m (x ∷ []) d = ends-ok (Instruction.Block i) f n _ (arrives g f x l.datum).goes
+  load_ok i e k g f l mem m (x ∷ []) d = ends-ok (Instruction.Block i) f n (load_step k (x ∷ []) g f l mem) (arrives g f x l.datum).goes
   load_ok i e k g f l mem m (x ∷ (y ∷ ys)) d =
       let c = drop-count (block.named i.list) k x (y ∷ ys) d in
       let now : block.count i - suc k ≡ suc (length ys) = omega (arith, c) in
@@ -231,7 +231,7 @@ module _ (n : Board) (short : n.size ≤ most_bytes) where
   single-load-ok i e zero g f l mem m =
       let x : extra (Instruction.Single i) g ≡ 2 = ap (λ b. pick b 2 1) e in
       (record { known = refl; allowed = m.allowed; has = omega arith; inside = refl }, refl)
-  single-load-ok i e (suc k) g f l mem m = ends-ok (Instruction.Single i) f n _ (arrives g f i.rd l.datum).goes
+  single-load-ok i e (suc k) g f l mem m = ends-ok (Instruction.Single i) f n (load_later i (suc k) g f l mem) (arrives g f i.rd l.datum).goes
 
   -- steps 2 to m of a multiply leave the registers, and so m
   multiply-ok : (i : Multiply) (k : ℕ) (g : List ℕ) (f : ℕ) (mem : Memory) {address : ℕ} → Mid (Instruction.Multiply i) k g address n
@@ -242,11 +242,11 @@ module _ (n : Board) (short : n.size ≤ most_bytes) where
       go : (b : Bool) → ltb (suc k) (m_of (rs_of i g)) ≡ b
           → OkOwn (Instruction.Multiply i) f n (pick b (own g (still f (More (Later (suc k)))) mem) (last (multiplied i g f) mem))
       go true e = (record { known = refl; allowed = m.allowed; has = ltb-true _ _ e; inside = refl }, refl)
-      go false e = ends-ok (Instruction.Multiply i) f n _ (multiplied i g f).goes
+      go false e = ends-ok (Instruction.Multiply i) f n (last (multiplied i g f) mem) (multiplied i g f).goes
 
   later-ok : (i : Instruction) (k : ℕ) (g : List ℕ) (f pc : ℕ) (l : Latches) (mem : Memory) → Mid i k g l.address n → OkOwn i f n (later_step i k g f pc l mem)
   unfolding later_step
-  later-ok (Instruction.Processing i) k g f pc l mem m = ends-ok (Instruction.Processing i) f n _ (processed i g f pc).goes
+  later-ok (Instruction.Processing i) k g f pc l mem m = ends-ok (Instruction.Processing i) f n (last (processed i g f pc) mem) (processed i g f pc).goes
   later-ok (Instruction.Single i) k g f pc l mem m = go i.l refl
     where
       go : (b : Bool) → i.l ≡ b → OkOwn (Instruction.Single i) f n (pick b (load_later i k g f l mem) (store_later i g f l mem))
