@@ -8,12 +8,14 @@ ghost use Rattle.std.proofs.lemmas.List.Edits.{sets};
 ghost use Rattle.text.specs.Output.{output, put};
 ghost use Rattle.report.specs.Report.{answer_line, core_lines, report_text, image_after};
 
-use libc::STDOUT_FILENO;
 use lines::{decimal_line, hex_line, register_lines};
 use pipeline::Core;
 
 // How many cycles the run may take (the paper's).
 const BUDGET: u64 = 64;
+
+// Standard output's number.
+const STDOUT: i32 = 1;
 
 fn answer_line(out: &mut [u8; 512], at: usize, answer: u32) -> usize
     ensures { output out.new result ≡ put (output out.old at) (answer_line answer) }
@@ -56,5 +58,5 @@ pub fn report(image: &mut [u8], out: &mut [u8; 512]) -> usize
 pub fn print(image: &mut [u8]) {
     let mut out = [0u8; 512];
     let end = report(image, &mut out);
-    io::write_all(STDOUT_FILENO, &out[..end]);
+    io::write_all(STDOUT, &out[..end]);
 }

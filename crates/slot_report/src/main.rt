@@ -2,10 +2,11 @@
 // image, so that a longer input shows.
 #![tactic(auto)]
 
-use libc::STDIN_FILENO;
+// Standard input's number.
+const STDIN: i32 = 0;
 
 fn main() {
     let mut buffer = [0u8; 65540];
-    let n = io::read_full(STDIN_FILENO, &mut buffer);
+    let n = io::read_full(STDIN, &mut buffer);
     report::print(&mut buffer[..n]);
 }

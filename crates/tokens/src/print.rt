@@ -1,8 +1,9 @@
 // Text and numbers on standard output.
-use libc::STDOUT_FILENO;
+// Standard output's number.
+const STDOUT: i32 = 1;
 
 pub fn bytes(text: &[u8]) {
-    io::write_all(STDOUT_FILENO, text);
+    io::write_all(STDOUT, text);
 }
 
 // A name and the lowest hexadecimal digits of a value, as many as asked for.

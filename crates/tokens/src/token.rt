@@ -2,14 +2,16 @@
 ghost use Rattle.std.specs.Prelude.{◌≡◌, ◌≤◌};
 ghost use Rattle.tokens.specs.Token.{pair_of, word_of};
 
-use libc::STDIN_FILENO;
 use text::digit::value_of;
+
+// Standard input's number.
+const STDIN: i32 = 0;
 
 // The next words of the input, as many as the buffer has. Answers whether there were so many.
 pub fn read(words: &mut [u32]) -> bool {
     for i in 0..words.len() {
         let mut text = [0u8; 9];
-        if io::read_full(STDIN_FILENO, &mut text) < 9 {
+        if io::read_full(STDIN, &mut text) < 9 {
             return false;
         }
         words[i] = word(&text);

@@ -1,0 +1,10 @@
+-- The lines of a core, one after the other. Assumes nothing.
+use Rattle.text.proofs.Put.{put-append}
+use Rattle.report.specs.Report.{core_lines}
+use Rattle.report.proofs.core_lines.Goals as goal
+
+pub returns : goal.returns
+unfolding core_lines
+returns c =
+    rw (put-append, ← c.hex_line-pc.ensures, put-append, ← c.decimal_line-cycles.ensures, put-append, ← c.decimal_line-retired.ensures, put-append, ← c.hex_line-flags.ensures)
+    c.register_lines.ensures
