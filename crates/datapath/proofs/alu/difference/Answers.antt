@@ -1,4 +1,4 @@
-use Rattle.std.proofs.Common.{◌≡◌, ◌+◌, ◌%◌, ◌^◌, ◌≤◌, not, arith, rules}
+use Rattle.std.proofs.Common.{◌≡◌, ◌+◌, ◌%◌, ◌^◌, ◌≤◌, not, arith}
 use Rattle.datapath.specs.Alu.{difference}
 use Rattle.datapath.proofs.Flags.{num-le}
 use Rattle.datapath.proofs.Sums.{wrapped-sub}

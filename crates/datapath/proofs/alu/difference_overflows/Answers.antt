@@ -1,4 +1,3 @@
-use Rattle.std.proofs.Common.{rules}
 use Rattle.datapath.proofs.Sums.{same-beq}
 use Rattle.datapath.proofs.alu.difference_overflows.Goals as goal
 

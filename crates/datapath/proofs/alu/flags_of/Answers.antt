@@ -1,4 +1,4 @@
-use Rattle.std.proofs.Common.{arith, rules}
+use Rattle.std.proofs.Common.{arith}
 use Rattle.datapath.specs.Alu.{flags_of}
 use Rattle.datapath.proofs.alu.flags_of.Goals as goal
 

@@ -1,4 +1,3 @@
-use Rattle.std.proofs.Common.{rules}
 use Rattle.datapath.proofs.alu.made_flags.Goals as goal
 
 pub returns : goal.returns

@@ -1,4 +1,3 @@
-use Rattle.std.proofs.Common.{rules}
 use Rattle.datapath.specs.Alu.{operate}
 use Rattle.datapath.proofs.Cases.{either, mvn}
 use Rattle.datapath.proofs.alu.operate.Goals as goal

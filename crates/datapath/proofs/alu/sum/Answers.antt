@@ -1,4 +1,4 @@
-use Rattle.std.proofs.Common.{◌≡◌, ◌+◌, ◌%◌, ◌^◌, arith, rules}
+use Rattle.std.proofs.Common.{◌≡◌, ◌+◌, ◌%◌, ◌^◌, arith}
 use Rattle.bits.specs.Bits.{num}
 use Rattle.datapath.specs.Alu.{sum}
 use Rattle.datapath.proofs.alu.sum.Goals as goal

@@ -1,4 +1,3 @@
-use Rattle.std.proofs.Common.{rules}
 use Rattle.datapath.specs.Counter.{ahead, behind}
 use Rattle.datapath.proofs.counter.behind.Goals as goal
 

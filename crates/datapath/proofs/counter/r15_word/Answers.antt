@@ -1,4 +1,4 @@
-use Rattle.std.proofs.Common.{arith, rules}
+use Rattle.std.proofs.Common.{arith}
 use Rattle.datapath.specs.Counter.{ahead, counter, r15_word}
 use Rattle.datapath.proofs.counter.r15_word.Goals as goal
 

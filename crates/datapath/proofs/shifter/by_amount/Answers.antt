@@ -1,4 +1,4 @@
-use Rattle.std.proofs.Common.{rules, eq-eqb, ne_eqb}
+use Rattle.std.proofs.Common.{eq-eqb, ne_eqb}
 use Rattle.datapath.specs.Shifter.{by_amount}
 use Rattle.datapath.proofs.shifter.by_amount.Goals as goal
 

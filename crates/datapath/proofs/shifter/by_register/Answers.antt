@@ -1,4 +1,4 @@
-use Rattle.std.proofs.Common.{rules, eq-eqb, ne_eqb}
+use Rattle.std.proofs.Common.{eq-eqb, ne_eqb}
 use Rattle.datapath.specs.Shifter.{by_register}
 use Rattle.datapath.proofs.shifter.by_register.Goals as goal
 

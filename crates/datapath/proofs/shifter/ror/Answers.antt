@@ -1,4 +1,3 @@
-use Rattle.std.proofs.Common.{rules}
 use Rattle.datapath.specs.Shifter.{ror}
 use Rattle.datapath.proofs.shifter.ror.Goals as goal
 

@@ -1,4 +1,4 @@
-use Rattle.std.proofs.Common.{arith, rules}
+use Rattle.std.proofs.Common.{arith}
 use Rattle.datapath.specs.Shifter.{rotated}
 use Rattle.datapath.proofs.Moved.{turned-word-or}
 use Rattle.datapath.proofs.shifter.rotate.Goals as goal

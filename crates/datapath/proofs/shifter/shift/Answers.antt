@@ -1,4 +1,4 @@
-use Rattle.std.proofs.Common.{◌≤◌, arith, rules}
+use Rattle.std.proofs.Common.{◌≤◌, arith}
 use lib.ListN.{get_or-eq_default}
 use Rattle.datapath.specs.Shifter.{shift}
 use Rattle.datapath.proofs.shifter.shift.Goals as goal

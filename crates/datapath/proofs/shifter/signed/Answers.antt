@@ -1,4 +1,4 @@
-use Rattle.std.proofs.Common.{◌≡◌, ◌-◌, ◌^◌, true, false, arith, pow_pos, rules}
+use Rattle.std.proofs.Common.{◌≡◌, ◌-◌, ◌^◌, true, false, arith, pow_pos}
 use lib.Pow.{shr_le}
 use Rattle.bits.specs.Bits.{bit}
 use Rattle.datapath.specs.Shifter.{signed}

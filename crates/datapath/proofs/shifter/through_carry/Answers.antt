@@ -1,4 +1,4 @@
-use Rattle.std.proofs.Common.{arith, rules}
+use Rattle.std.proofs.Common.{arith}
 use Rattle.datapath.proofs.Flags.{num-le}
 use Rattle.datapath.proofs.shifter.through_carry.Goals as goal
 

@@ -1,4 +1,4 @@
-use Rattle.std.proofs.Common.{◌≤◌, arith, rules}
+use Rattle.std.proofs.Common.{◌≤◌, arith}
 use lib.ListN.{get_or-eq_default}
 use Rattle.datapath.proofs.shifter.zero_amount.Goals as goal
 
@@ -12,5 +12,5 @@ pub returns-in-2 : goal.returns-in-2
 returns-in-2 c = simp (c.asr.ensures, c.in-2.is)
 
 pub returns-in_default : goal.returns-in_default
-returns-in_default c =     let l : 3 ≤ c.args.kind = omega arith in
+returns-in_default c = let l : 3 ≤ c.args.kind = omega arith in
     simp (c.bit.ensures, c.through_carry.ensures, get_or-eq_default)

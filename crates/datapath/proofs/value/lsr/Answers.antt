@@ -1,4 +1,4 @@
-use Rattle.std.proofs.Common.{le_of_lt, rules, le-leb}
+use Rattle.std.proofs.Common.{le_of_lt, le-leb}
 use Rattle.datapath.specs.Shifter.{lsr}
 use Rattle.datapath.proofs.Moved.{lsr-out}
 use Rattle.datapath.proofs.value.lsr.Goals as goal

@@ -1,4 +1,4 @@
-use Rattle.std.proofs.Common.{◌≡◌, ◌≤◌, arith, rules}
+use Rattle.std.proofs.Common.{◌≡◌, ◌≤◌, arith}
 use lib.ListN.{get_or-eq_default}
 use Rattle.datapath.specs.Shifter.{ror, shift}
 use Rattle.datapath.proofs.value.shifted.Goals as goal
@@ -17,7 +17,7 @@ returns-in-2 c = simp (c.asr.ensures, c.in-2.is)
 
 pub returns-in_default : goal.returns-in_default
 unfolding ror shift
-returns-in_default c =     let at = c.args in
+returns-in_default c = let at = c.args in
     let l : 3 ≤ at.kind = omega arith in
     let e : shift at.kind at.v at.n ≡ ror at.v at.n = simp get_or-eq_default in
     simp (c.rotate.ensures, e)

@@ -1,4 +1,4 @@
-use Rattle.std.proofs.Common.{◌≡◌, ◌+◌, ◌*◌, ◌/◌, ◌^◌, ◌≤◌, arith, rules}
+use Rattle.std.proofs.Common.{◌≡◌, ◌+◌, ◌*◌, ◌/◌, ◌^◌, ◌≤◌, arith}
 use lib.ListN.{get_or-eq_default}
 use Rattle.bits.specs.Bits.{bit, num}
 use Rattle.datapath.specs.Shifter.{shifted, zero_amount}
@@ -14,7 +14,7 @@ pub returns-in-2 : goal.returns-in-2
 returns-in-2 c = simp (c.asr.ensures, c.in-2.is)
 
 pub returns-in_default : goal.returns-in_default
-returns-in_default c =     let at = c.args in
+returns-in_default c = let at = c.args in
     let l : 3 ≤ at.kind = omega arith in
     let e : zero_amount at.kind at.v at.carry ≡ shifted (at.v / 2 + num at.carry * 2 ^ 31) (bit at.v 0) = simp get_or-eq_default in
     simp (c.through_carry.ensures, e)
