@@ -17,7 +17,7 @@ use Rattle.word.specs.declared.Multiply.{Multiply}
 use Rattle.word.specs.declared.Instruction.{Instruction}
 use Rattle.word.specs.Reader.{read_of, is_other}
 use Rattle.condition.specs.Condition.{passes}
-use Rattle.datapath.specs.Counter.{ahead, behind, counter, counters}
+use Rattle.datapath.specs.Counter.{ahead, behind, counters}
 use Rattle.datapath.proofs.Counters.{ahead-lt, ahead-behind, ahead-word, counter-lt, counter-word}
 use Rattle.memory.specs.declared.Board.{Board}
 use Rattle.memory.specs.Memory.{Memory, memory_of, limit}

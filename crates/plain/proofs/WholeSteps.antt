@@ -11,7 +11,6 @@ use borrow.Author.Tests.{le-leb, lt-leb, ltb-true, ltb-false, leb-true, leb-fals
 use Rattle.bits.specs.Choice.{pick}
 use Rattle.memory.specs.declared.Board.{Board}
 use Rattle.memory.specs.Memory.{memory_of, word_at}
-use Rattle.registers.specs.State.{state}
 use Rattle.semantics.specs.declared.Performed.{Performed}
 use Rattle.semantics.specs.Perform.{Result, result_of, performs}
 use Rattle.semantics.proofs.Durations.{performed-short}

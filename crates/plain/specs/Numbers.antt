@@ -1,5 +1,5 @@
 -- What a start or a run of the plain machine refuses (paper 01, the two lists of numbers and "Plain machine").
-use Rattle.std.specs.Prelude.{ℕ, ◌%◌, Bool, not, ◌||◌, ◌&&◌, ltb, leb, eqb, length}
+use Rattle.std.specs.Prelude.{ℕ, ◌%◌, Bool, not, ◌||◌, ◌&&◌, ltb, leb, eqb}
 use Rattle.datapath.specs.Counter.{counters}
 use Rattle.bits.specs.Choice.{pick}
 use Rattle.stops.specs.Numbers.{no_word, fetched_word}

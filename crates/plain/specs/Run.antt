@@ -3,7 +3,7 @@ use Rattle.std.specs.Prelude.{ℕ, List, eqb, length, replicate}
 use Rattle.bits.specs.Choice.{pick}
 use Rattle.plain.specs.declared.Plain.{Plain}
 use Rattle.plain.specs.declared.PlainStarted.{PlainStarted}
-use Rattle.plain.specs.Machine.{Machine, machine, plain, step}
+use Rattle.plain.specs.Machine.{Machine, plain, step}
 use Rattle.plain.specs.Numbers.{start_answer, refusal}
 use Rattle.plain.specs.Running.{Ran, Engine, runs, unless}
 

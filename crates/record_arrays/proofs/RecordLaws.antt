@@ -13,10 +13,6 @@ use borrow.Author.Tests.{eqb-true, eq-eqb}
 use Rattle.bits.proofs.Fields.{bit-num}
 use Rattle.word.specs.declared.Operand.{Operand}
 use Rattle.word.specs.declared.Operand.TheVariants.{Constant, ShiftByAmount, ShiftByRegister}
-use Rattle.word.specs.declared.Processing.{Processing}
-use Rattle.word.specs.declared.Single.{Single}
-use Rattle.word.specs.declared.Block.{Block}
-use Rattle.word.specs.declared.Branch.{Branch}
 use Rattle.word.specs.declared.Instruction.{Instruction}
 use Rattle.arrays.specs.Words.{at}
 use Rattle.record_arrays.specs.RecordArray.{quad_of, operand_of, record_words, record_of, same, stands_for_record}

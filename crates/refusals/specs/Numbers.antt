@@ -1,7 +1,6 @@
 -- What makes a record bad, and what a run refuses with (paper 01, "Numbers caused by the state").
 use Rattle.std.specs.Prelude.{ℕ, suc, ◌+◌, ◌-◌, Bool, true, false, not, ◌||◌, ltb, eqb}
 use Rattle.bits.specs.Choice.{pick}
-use Rattle.word.specs.declared.Single.{Single}
 use Rattle.word.specs.declared.Instruction.{Instruction}
 use Rattle.word.specs.Reader.{is_other}
 use Rattle.datapath.specs.Counter.{behind}

@@ -30,7 +30,6 @@ use Rattle.semantics.proofs.Stopped.{stopped-unchanged}
 use Rattle.plain.specs.Machine as plain
 use Rattle.plain.specs.Trace.{stop_met, duration}
 use Rattle.plain.specs.Numbers.{most_bytes}
-use Rattle.cycle.specs.Machine.{Machine}
 use Rattle.cycle.specs.StopFound.{stop_found}
 use Rattle.cycle.specs.Cycle.{cycle}
 use Rattle.runs.specs.Boundary.{boundary}

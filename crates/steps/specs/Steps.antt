@@ -1,5 +1,5 @@
 -- What an instruction does in each of its own steps (paper 01, the table of "Pipeline"; multiply: 02 §1), besides the fetch.
-use Rattle.std.specs.Prelude.{ℕ, zero, suc, ◌+◌, ◌-◌, get_or, drop, ltb}
+use Rattle.std.specs.Prelude.{ℕ, zero, suc, get_or, drop, ltb}
 use mathlib.Core.List.{List, [], ◌∷◌, tail}
 use Rattle.bits.specs.Choice.{pick}
 use Rattle.word.specs.declared.Single.{Single}

@@ -1,7 +1,6 @@
 use mathlib.Core.Path.{refl}
 use mathlib.Core.List.{[], ◌∷◌}
-use Rattle.arrays.proofs.Words.{put-length, room}
-use borrow.Author.Rules.{rules}
+use Rattle.arrays.proofs.Words.{put-length}
 use Rattle.arrays.proofs.put_registers.Goals as goal
 
 pub shape_of-words : goal.shape_of-words

@@ -1,4 +1,3 @@
-use Rattle.std.proofs.Common.{arith}
 use Rattle.text.specs.Text.{hex_digits}
 use Rattle.text.specs.Output.{put}
 use Rattle.text.proofs.Put.{put-snoc}

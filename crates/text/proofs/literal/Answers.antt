@@ -1,10 +1,10 @@
 -- A text byte by byte: after i turns its first i bytes are put. Assumes nothing.
-use mathlib.Core.Path.{◌≡◌, refl}
-use Prim.Native.Nat.{◌≤◌, ◌<◌, ◌-◌}
+use mathlib.Core.Path.{refl}
+use Prim.Native.Nat.{◌≤◌, ◌<◌}
 use native.Mathlib.Numerals.{add-one}
-use lib.ListN.{length, take}
+use lib.ListN.{length}
 use lib.Seq.{take-suc, take_all}
-use Rattle.text.specs.Output.{output, put}
+use Rattle.text.specs.Output.{put}
 use Rattle.text.proofs.Put.{put-snoc}
 use borrow.Author.Rules.{rules}
 use Rattle.text.proofs.literal.Goals as goal

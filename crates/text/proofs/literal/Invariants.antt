@@ -1,11 +1,8 @@
 -- A text byte by byte: after i turns its first i bytes are put. Assumes nothing.
-use mathlib.Core.Path.{◌≡◌, refl}
-use Prim.Native.Nat.{◌≤◌, ◌<◌, ◌-◌}
-use native.Mathlib.Numerals.{add-one}
+use mathlib.Core.Path.{◌≡◌}
+use Prim.Native.Nat.{◌≤◌, ◌-◌}
 use lib.ListN.{length, take}
-use lib.Seq.{take-suc, take_all}
 use Rattle.text.specs.Output.{output, put}
-use Rattle.text.proofs.Put.{put-snoc}
 use Rattle.text.proofs.literal.Given as goal
 
 abbrev pub invariant-loop-i : goal.invariant-loop-i

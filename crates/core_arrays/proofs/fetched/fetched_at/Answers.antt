@@ -1,4 +1,4 @@
-use Rattle.std.proofs.Common.{rules, eq-eqb, ne_eqb}
+use Rattle.std.proofs.Common.{eq-eqb, ne_eqb}
 use Rattle.core_arrays.proofs.fetched.fetched_at.Goals as goal
 
 pub returns-then-words-at-eq0 : goal.returns-then-words-at-eq0

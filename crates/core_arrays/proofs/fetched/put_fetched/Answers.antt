@@ -1,4 +1,3 @@
-use Rattle.std.proofs.Common.{rules}
 use Rattle.core_arrays.proofs.fetched.put_fetched.Goals as goal
 
 pub returns-in-Word : goal.returns-in-Word

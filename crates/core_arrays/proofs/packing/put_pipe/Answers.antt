@@ -1,4 +1,3 @@
-use Rattle.std.proofs.Common.{rules}
 use Rattle.core_arrays.proofs.packing.put_pipe.Goals as goal
 
 pub returns : goal.returns

@@ -1,4 +1,3 @@
-use Rattle.std.proofs.Common.{rules}
 use Rattle.core_arrays.proofs.phases.phase_number.Goals as goal
 
 pub returns-in-Later : goal.returns-in-Later

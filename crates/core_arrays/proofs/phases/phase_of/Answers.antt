@@ -1,4 +1,4 @@
-use Rattle.std.proofs.Common.{rules, eq-eqb, ne_eqb}
+use Rattle.std.proofs.Common.{eq-eqb, ne_eqb}
 use Rattle.core_arrays.proofs.phases.phase_of.Goals as goal
 
 pub returns-then-n-eq0 : goal.returns-then-n-eq0

@@ -1,4 +1,3 @@
-use Rattle.std.proofs.Common.{rules}
 use Rattle.core_arrays.proofs.unpacking.control_of.Goals as goal
 
 pub returns : goal.returns

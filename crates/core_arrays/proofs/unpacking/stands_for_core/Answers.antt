@@ -1,5 +1,4 @@
 use Rattle.core_arrays.specs.CoreArray.{stands_for_core}
-use Rattle.std.proofs.Common.{rules}
 use Rattle.core_arrays.proofs.unpacking.stands_for_core.Goals as goal
 
 pub returns : goal.returns

@@ -1,5 +1,4 @@
 use Rattle.core_arrays.specs.CoreArray.{unpacked}
-use Rattle.std.proofs.Common.{rules}
 use Rattle.core_arrays.proofs.unpacking.unpacked.Goals as goal
 
 pub returns : goal.returns

@@ -1,10 +1,9 @@
 -- The loop's invariant: what is left of both budgets, from here, comes to the whole. Assumes nothing.
 use Prim.Native.Nat.{◌-◌}
-use mathlib.Core.Path.{◌≡◌, refl, ◌∙◌}
-use native.Mathlib.Omega.{arith}
+use mathlib.Core.Path.{◌≡◌}
 use lib.ListN.{length}
 use Rattle.plain.specs.Whole.{wholes, going}
-use Rattle.plain.proofs.WholeSteps.{Left, left-start, left_step, left-stop, left_over, left-more, left-cycles, stop-told, cycles-told, step-told, goes-told}
+use Rattle.plain.proofs.WholeSteps.{Left}
 use Rattle.plain.proofs.whole.wholes.Given as goal
 
 abbrev pub invariant-loop-done : goal.invariant-loop-done

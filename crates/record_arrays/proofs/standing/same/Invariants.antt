@@ -1,9 +1,7 @@
 use Prim.Native.Nat.{◌≤◌, ◌-◌}
-use mathlib.Core.Path.{◌≡◌, refl}
+use mathlib.Core.Path.{◌≡◌}
 use mathlib.Core.Bool.{true}
-use native.Mathlib.Omega.{arith}
 use Rattle.record_arrays.specs.RecordArray.{same}
-use Rattle.record_arrays.proofs.RecordLaws.{differ, one_more, all_same}
 use Rattle.record_arrays.proofs.standing.same.Given as goal
 
 abbrev pub invariant-loop-i : goal.invariant-loop-i

@@ -1,9 +1,7 @@
 -- The registers' lines: after k turns those of the first k registers are put. Assumes nothing.
-use mathlib.Core.Path.{◌≡◌, refl}
+use mathlib.Core.Path.{◌≡◌}
 use Prim.Native.Nat.{◌≤◌, ◌-◌}
-use native.Mathlib.Numerals.{add-one}
 use Rattle.text.specs.Output.{output, put}
-use Rattle.text.proofs.Put.{put-append}
 use Rattle.report.specs.Lines.{register_lines}
 use Rattle.report.proofs.lines.register_lines.Given as goal
 

@@ -1,12 +1,9 @@
 -- The loop's invariant: what is left of the budget, run from here, is the run. Assumes nothing.
-use mathlib.Core.Path.{◌≡◌, refl, sym, ◌∙◌}
+use mathlib.Core.Path.{refl, sym, ◌∙◌}
 use native.Mathlib.Omega.{arith}
-use Prim.Native.Nat.{◌-◌}
-use lib.ListN.{length}
-use Rattle.cycle.specs.Machine.{machine}
 use Rattle.plain.proofs.Running as running
 use Rattle.runs.specs.Run.{engine}
-use Rattle.runs.proofs.RunLoop.{Left, left-start, left_step}
+use Rattle.runs.proofs.RunLoop.{left-start, left_step}
 use Rattle.runs.proofs.QuickRoad.{left-skip}
 use borrow.Author.Rules.{rules}
 use Rattle.runs.proofs.run.run_from.Goals as goal

@@ -1,13 +1,9 @@
 -- The loop's invariant: what is left of the budget, run from here, is the run. Assumes nothing.
-use mathlib.Core.Path.{◌≡◌, refl, sym, ◌∙◌}
-use native.Mathlib.Omega.{arith}
+use mathlib.Core.Path.{◌≡◌}
 use Prim.Native.Nat.{◌-◌}
 use lib.ListN.{length}
 use Rattle.cycle.specs.Machine.{machine}
-use Rattle.plain.proofs.Running as running
-use Rattle.runs.specs.Run.{engine}
-use Rattle.runs.proofs.RunLoop.{Left, left-start, left_step}
-use Rattle.runs.proofs.QuickRoad.{left-skip}
+use Rattle.runs.proofs.RunLoop.{Left}
 use Rattle.runs.proofs.run.run_from.Given as goal
 
 abbrev pub invariant-loop-used : goal.invariant-loop-used

@@ -1,5 +1,4 @@
 use Rattle.semantics.specs.Branch.{branched}
-use Rattle.std.proofs.Common.{rules}
 use Rattle.semantics.proofs.branch.branch.Goals as goal
 
 pub returns : goal.returns

@@ -1,4 +1,3 @@
-use Rattle.std.proofs.Common.{rules}
 use Rattle.semantics.proofs.branch.link.Goals as goal
 
 pub returns-then-i : goal.returns-then-i

@@ -1,6 +1,5 @@
 use Rattle.semantics.proofs.Durations.{block-short}
 use Rattle.semantics.proofs.WordDurations.{short-as, block-lasts}
-use Rattle.std.proofs.Common.{rules}
 use Rattle.semantics.proofs.duration.block_duration.Goals as goal
 
 pub with_refills-requires : goal.with_refills-requires

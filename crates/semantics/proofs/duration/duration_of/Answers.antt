@@ -1,6 +1,5 @@
 use Rattle.word.proofs.Dispatch.{reads-processing, reads-single, reads-block, reads-branch, reads-multiply, reads_other}
 use Rattle.semantics.proofs.WordDurations.{read-lasts, branch-lasts, multiply-lasts, other-lasts}
-use Rattle.std.proofs.Common.{rules}
 use Rattle.semantics.proofs.duration.duration_of.Goals as goal
 
 pub returns-in-0 : goal.returns-in-0

@@ -1,6 +1,5 @@
 use Rattle.semantics.proofs.Durations.{processing-short}
 use Rattle.semantics.proofs.WordDurations.{short-as, processing-lasts}
-use Rattle.std.proofs.Common.{rules}
 use Rattle.semantics.proofs.duration.processing_duration.Goals as goal
 
 pub with_refills-requires : goal.with_refills-requires

@@ -1,4 +1,4 @@
-use Rattle.std.proofs.Common.{arith, rules}
+use Rattle.std.proofs.Common.{arith}
 use Rattle.transfer.proofs.NamedRegisters.{named-length}
 use Rattle.semantics.proofs.own_steps.block_steps.Goals as goal
 

@@ -1,4 +1,4 @@
-use Rattle.std.proofs.Common.{◌≡◌, ℕ, ◌+◌, ◌^◌, ◌<◌, arith, rules}
+use Rattle.std.proofs.Common.{◌≡◌, ℕ, ◌+◌, ◌^◌, ◌<◌, arith}
 use Rattle.multiply.specs.InternalCycles.{m_of}
 use Rattle.multiply.proofs.InternalCycles.{m-bounds}
 use Rattle.semantics.proofs.own_steps.multiply_steps.Goals as goal

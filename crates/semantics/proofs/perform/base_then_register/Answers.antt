@@ -1,4 +1,3 @@
-use Rattle.std.proofs.Common.{rules}
 use Rattle.semantics.proofs.perform.base_then_register.Goals as goal
 
 pub returns : goal.returns

@@ -1,5 +1,4 @@
 use Rattle.semantics.proofs.Results.{went_on, went_to}
-use Rattle.std.proofs.Common.{rules}
 use Rattle.semantics.proofs.perform.done.Goals as goal
 
 pub returns-in-Next : goal.returns-in-Next

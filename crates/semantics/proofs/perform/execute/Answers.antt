@@ -1,6 +1,5 @@
 use Rattle.word.proofs.Dispatch.{reads-processing, reads-single, reads-block, reads-branch, reads-multiply, reads_other}
 use Rattle.semantics.proofs.Results.{other-stop, read_as}
-use Rattle.std.proofs.Common.{rules}
 use Rattle.semantics.proofs.perform.execute.Goals as goal
 
 pub returns-in-0 : goal.returns-in-0

@@ -1,6 +1,5 @@
 use Rattle.semantics.proofs.Durations.{single-short}
 use Rattle.semantics.proofs.Results.{whole, load_done}
-use Rattle.std.proofs.Common.{rules}
 use Rattle.semantics.proofs.perform.load.Goals as goal
 
 pub done-requires : goal.done-requires

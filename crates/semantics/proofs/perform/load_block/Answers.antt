@@ -1,6 +1,5 @@
 use Rattle.semantics.proofs.Durations.{block-short}
 use Rattle.semantics.proofs.Results.{whole, block-load-done}
-use Rattle.std.proofs.Common.{rules}
 use Rattle.semantics.proofs.perform.load_block.Goals as goal
 
 pub done-requires : goal.done-requires

@@ -1,4 +1,4 @@
-use Rattle.std.proofs.Common.{ap, rules}
+use Rattle.std.proofs.Common.{ap}
 use Rattle.registers.specs.Registers.{Out}
 use Rattle.semantics.proofs.perform.loaded.Goals as goal
 

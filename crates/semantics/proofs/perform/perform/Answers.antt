@@ -1,4 +1,4 @@
-use Rattle.std.proofs.Common.{◌≡◌, false, sym, ◌∙◌, rules}
+use Rattle.std.proofs.Common.{◌≡◌, false, sym, ◌∙◌}
 use Rattle.bits.specs.Bits.{field}
 use Rattle.condition.specs.Condition.{passes}
 use Rattle.semantics.proofs.Results.{passing, failing}

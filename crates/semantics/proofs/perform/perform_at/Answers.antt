@@ -1,4 +1,4 @@
-use Rattle.std.proofs.Common.{sym, ◌∙◌, rules}
+use Rattle.std.proofs.Common.{sym, ◌∙◌}
 use Rattle.semantics.proofs.Results.{fetched-as, blank-stop}
 use Rattle.semantics.proofs.perform.perform_at.Goals as goal
 

@@ -1,4 +1,4 @@
-use Rattle.std.proofs.Common.{◌∙◌, rules}
+use Rattle.std.proofs.Common.{◌∙◌}
 use Rattle.semantics.proofs.Results.{executed-stop, executed-done, block-load, block-store}
 use Rattle.semantics.proofs.perform.perform_block.Goals as goal
 

@@ -1,5 +1,4 @@
 use Rattle.semantics.proofs.Results.{branch-done}
-use Rattle.std.proofs.Common.{rules}
 use Rattle.semantics.proofs.perform.perform_branch.Goals as goal
 
 pub returns : goal.returns

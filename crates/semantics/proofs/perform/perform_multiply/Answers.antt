@@ -1,5 +1,4 @@
 use Rattle.semantics.proofs.Results.{executed-stop, executed-done, multiply-done}
-use Rattle.std.proofs.Common.{rules}
 use Rattle.semantics.proofs.perform.perform_multiply.Goals as goal
 
 pub returns-then-stop-ne0 : goal.returns-then-stop-ne0

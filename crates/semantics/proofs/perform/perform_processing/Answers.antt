@@ -1,6 +1,5 @@
 use Rattle.semantics.proofs.Durations.{processing-short}
 use Rattle.semantics.proofs.Results.{executed-stop, executed-done, processing-done}
-use Rattle.std.proofs.Common.{rules}
 use Rattle.semantics.proofs.perform.perform_processing.Goals as goal
 
 pub returns-then-stop-ne0 : goal.returns-then-stop-ne0

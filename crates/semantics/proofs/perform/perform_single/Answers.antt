@@ -1,4 +1,4 @@
-use Rattle.std.proofs.Common.{◌∙◌, rules}
+use Rattle.std.proofs.Common.{◌∙◌}
 use Rattle.stops.proofs.Joins.{single-stop}
 use Rattle.semantics.proofs.Results.{executed-stop, executed-done, single-load, single-store}
 use Rattle.semantics.proofs.perform.perform_single.Goals as goal

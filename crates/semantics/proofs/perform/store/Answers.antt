@@ -1,4 +1,4 @@
-use Rattle.std.proofs.Common.{◌∙◌, rules}
+use Rattle.std.proofs.Common.{◌∙◌}
 use Rattle.semantics.specs.Effect.{store_effect}
 use Rattle.semantics.proofs.Results.{store-done}
 use Rattle.semantics.proofs.perform.store.Goals as goal

@@ -1,4 +1,4 @@
-use Rattle.std.proofs.Common.{◌∙◌, rules}
+use Rattle.std.proofs.Common.{◌∙◌}
 use Rattle.semantics.specs.Effect.{block_store_effect}
 use Rattle.semantics.proofs.Results.{block-store-done}
 use Rattle.semantics.proofs.perform.store_block.Goals as goal

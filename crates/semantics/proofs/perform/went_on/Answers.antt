@@ -1,4 +1,3 @@
-use Rattle.std.proofs.Common.{rules}
 use Rattle.semantics.proofs.perform.went_on.Goals as goal
 
 pub returns : goal.returns

@@ -1,4 +1,4 @@
-use Rattle.std.proofs.Common.{arith, rules}
+use Rattle.std.proofs.Common.{arith}
 use Rattle.transfer.proofs.NamedRegisters.{named-length}
 use Rattle.transfer.specs.Block.{changed_base}
 use Rattle.transfer.proofs.block.changed_base.Goals as goal

@@ -1,8 +1,7 @@
 -- The loop's invariant: loading what is left from here on is loading the whole list. The measure is how many are left.
 -- Assumes nothing.
-use Rattle.std.proofs.Common.{◌≡◌, ◌<◌, length, sym, refl, ◌∙◌, arith, rules}
-use Rattle.memory.specs.Memory.{memory_of}
-use Rattle.transfer.specs.Block.{named, loads}
+use Rattle.std.proofs.Common.{◌≡◌, ◌<◌, length, sym, refl, ◌∙◌, arith}
+use Rattle.transfer.specs.Block.{named}
 use Rattle.transfer.proofs.NamedRegisters.{tail-length}
 use Rattle.transfer.proofs.Moves.{loads-none, loads-last, loads-step}
 use Rattle.transfer.proofs.block.load.Goals as goal

@@ -1,10 +1,8 @@
 -- The loop's invariant: loading what is left from here on is loading the whole list. The measure is how many are left.
 -- Assumes nothing.
-use Rattle.std.proofs.Common.{◌≡◌, ◌<◌, length, sym, refl, ◌∙◌, arith, rules}
+use Rattle.std.proofs.Common.{◌≡◌, length}
 use Rattle.memory.specs.Memory.{memory_of}
 use Rattle.transfer.specs.Block.{named, loads}
-use Rattle.transfer.proofs.NamedRegisters.{tail-length}
-use Rattle.transfer.proofs.Moves.{loads-none, loads-last, loads-step}
 use Rattle.transfer.proofs.block.load.Given as goal
 
 abbrev pub invariant-loop-n : goal.invariant-loop-n

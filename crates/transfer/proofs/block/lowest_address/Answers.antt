@@ -1,5 +1,4 @@
 use Rattle.transfer.specs.Block.{lowest_address}
-use Rattle.std.proofs.Common.{rules}
 use Rattle.transfer.proofs.block.lowest_address.Goals as goal
 
 pub returns-then-i : goal.returns-then-i

@@ -1,4 +1,4 @@
-use Rattle.std.proofs.Common.{sym, ◌∙◌, rules}
+use Rattle.std.proofs.Common.{sym, ◌∙◌}
 use Rattle.transfer.proofs.Moves.{stores-all}
 use Rattle.transfer.proofs.block.store_all.Goals as goal
 

@@ -1,4 +1,4 @@
-use Rattle.std.proofs.Common.{◌≡◌, ◌<◌, length, take, sym, arith, length-take, rules}
+use Rattle.std.proofs.Common.{◌≡◌, ◌<◌, length, take, sym, arith, length-take}
 use Rattle.transfer.specs.Block.{named}
 use Rattle.transfer.proofs.Moves.{stores-none, stores-lowest}
 use Rattle.transfer.proofs.block.store_lowest.Goals as goal

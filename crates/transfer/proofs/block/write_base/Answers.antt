@@ -1,5 +1,4 @@
 use Rattle.transfer.specs.Block.{with_base}
-use Rattle.std.proofs.Common.{rules}
 use Rattle.transfer.proofs.block.write_base.Goals as goal
 
 pub returns-then-i : goal.returns-then-i

@@ -1,9 +1,7 @@
 -- The loop's invariant: what is left, without the registers still to drop, is what was asked for. The measure is how many those are.
 -- Assumes nothing.
-use Rattle.std.proofs.Common.{◌≡◌, ◌<◌, drop, sym, ◌∙◌, arith, rules}
-use lib.Seq.{drop-nil}
+use Rattle.std.proofs.Common.{◌≡◌, ◌<◌, drop}
 use Rattle.transfer.specs.Block.{named}
-use Rattle.transfer.proofs.NamedRegisters.{named-mod, named_none, list-of, list-lt, drop-tail}
 use Rattle.transfer.proofs.named.dropped.Given as goal
 
 abbrev pub invariant-loop-more : goal.invariant-loop-more

@@ -1,4 +1,3 @@
-use Rattle.std.proofs.Common.{rules}
 use Rattle.transfer.proofs.NamedRegisters.{named-lowest}
 use Rattle.transfer.proofs.named.lowest.Goals as goal
 

@@ -1,4 +1,4 @@
-use Rattle.std.proofs.Common.{arith, pow_mono, rules}
+use Rattle.std.proofs.Common.{arith, pow_mono}
 use Rattle.bits.proofs.Fields.{shl_one}
 use Rattle.transfer.proofs.NamedRegisters.{lowest, lowest-le, named-rest, list-of}
 use Rattle.transfer.proofs.named.rest.Goals as goal

@@ -1,5 +1,4 @@
 use Rattle.transfer.specs.Single.{loaded_value}
-use Rattle.std.proofs.Common.{rules}
 use Rattle.transfer.proofs.single.loaded_value.Goals as goal
 
 pub returns-then-i : goal.returns-then-i

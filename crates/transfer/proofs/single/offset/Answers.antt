@@ -1,4 +1,4 @@
-use Rattle.std.proofs.Common.{arith, rules}
+use Rattle.std.proofs.Common.{arith}
 use Rattle.transfer.specs.Single.{offset_of}
 use Rattle.transfer.proofs.single.offset.Goals as goal
 

@@ -1,5 +1,4 @@
 use Rattle.transfer.specs.Single.{changed_base, address_of}
-use Rattle.std.proofs.Common.{rules}
 use Rattle.transfer.proofs.single.reach.Goals as goal
 
 pub returns-then-i : goal.returns-then-i

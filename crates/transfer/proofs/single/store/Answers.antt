@@ -1,5 +1,4 @@
 use Rattle.transfer.specs.Single.{stored_to}
-use Rattle.std.proofs.Common.{rules}
 use Rattle.transfer.proofs.single.store.Goals as goal
 
 pub returns-then-i : goal.returns-then-i

@@ -1,5 +1,4 @@
 use Rattle.transfer.specs.Single.{stored_value}
-use Rattle.std.proofs.Common.{rules}
 use Rattle.transfer.proofs.single.stored_value.Goals as goal
 
 pub returns : goal.returns

@@ -1,4 +1,4 @@
-use Rattle.std.proofs.Common.{sym, ◌∙◌, rules}
+use Rattle.std.proofs.Common.{sym, ◌∙◌}
 use Rattle.transfer.specs.Single.{with_base}
 use Rattle.transfer.proofs.single.write_base.Goals as goal
 
