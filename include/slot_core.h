@@ -105,7 +105,7 @@ enum {
  * flags and memory are those of all instructions up to it, and A, the address of the next, is PC-8 modulo 2^26.
  * Between boundaries R0 to R14 are those of an instruction half done: after step 2 of a load its base is written and
  * its register is not, a block load has the lower of its registers and not the higher. A is PC-12 in steps 2 and up.
- * slot_core_settle goes on to the next boundary, in at most 19 cycles: call it before R0 to R14 are read.
+ * From a start a boundary is at most 19 cycles away. slot_core_settle goes on to the next: call it before R0 to R14 are read.
  *
  * Does the coming cycle store, where, and how much? With no stop held, exactly where PHASE is SLOT_PHASE_STEP2 or
  * above and IX is a store:

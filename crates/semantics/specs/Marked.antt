@@ -1,5 +1,5 @@
 -- The marked values of instructions (paper 01, "Marked values, proved together"), each of a whole instruction word; with them
--- the base after a post_indexed load, and the cycle of a failed condition.
+-- the base after a post-indexed load, and the cycle of a failed condition.
 use Rattle.std.specs.Prelude.{◌≡◌, ℕ, ◌+◌, true, List, [], ◌∷◌, length, replicate}
 use Rattle.bits.specs.Bits.{bit, num}
 use Rattle.datapath.specs.Alu.{carry_of, overflow_of}

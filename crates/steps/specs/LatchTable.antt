@@ -65,7 +65,7 @@ pub record LatchTable : Type 0 where
   pub plain_load_1 : after 0xE5910005 0 ≡ left registers (latches 0x15 0 0) memory (More (Later 0))
   pub plain_load_2 : after 0xE5910005 1 ≡ left registers (latches 0 0xA2000000 0) memory (More (Later 1))
   pub plain_load_3 : after 0xE5910005 2 ≡ left (holding 0xA2000000 0x10 2 0x33) idle memory (Done Executed)
-  -- of the base, post_indexed: LDR R1, [R1], 4
+  -- of the base, post-indexed: LDR R1, [R1], 4
   pub base_load_1 : after 0xE4911004 0 ≡ left registers (latches 0x10 0 0x14) memory (More (Later 0))
   pub base_load_2 : after 0xE4911004 1 ≡ left (holding 0x30 0x14 2 0x33) (latches 0 0xA1 0) memory (More (Later 1))
   pub base_load_3 : after 0xE4911004 2 ≡ left (holding 0x30 0xA1 2 0x33) idle memory (Done Executed)
