@@ -4,8 +4,10 @@ use mathlib.Core.Path.{◌≡◌, refl, sym, ap, ◌∙◌}
 use mathlib.Core.Bool.{Bool, true, false}
 use mathlib.Core.Logic.{◌≢◌}
 use Prim.Native.Nat.{ℕ, ◌*◌, ◌/◌, ◌%◌, ◌^◌, ◌≤◌, ◌<◌}
-use native.Mathlib.Nat.{one-mul, mod-eq_of_lt, mod-lt, lt_of_lt_of_le}
+use native.Mathlib.Nat.{div-eq_of_lt, one-mul, mod-eq_of_lt, mod-lt, lt_of_lt_of_le}
 use native.Mathlib.Omega.{arith}
+use Rattle.std.specs.Prelude.{Option, None, Some, unwrap_or}
+use Rattle.std.specs.Option.{SomeIff}
 use lib.Dec.{eqb}
 use lib.Pow.{pow_pos, pow-lt, pow_mono}
 use borrow.Author.Tests.{eqb-true, eqb-false}
@@ -18,6 +20,11 @@ shl_one k h = ap (λ (x : ℕ). x % 2 ^ 32) (one-mul (2 ^ k)) ∙ mod-eq_of_lt (
 -- a word has no bit from 32 on
 pub word_lt : (w k : ℕ) → w < 2 ^ 32 → 32 ≤ k → w < 2 ^ k
 word_lt w k h l = lt_of_lt_of_le h (pow_mono l)
+
+-- moved right, and 0 where there are too many places
+pub shifted-or_zero : (o : Option ℕ) (w k : ℕ) → w < 2 ^ 32 → SomeIff o (k < 32) (w / 2 ^ k) → unwrap_or o 0 ≡ w / 2 ^ k
+shifted-or_zero None w k h n = sym (div-eq_of_lt (word_lt w k h (omega (arith, n))))
+shifted-or_zero (Some x) w k h p = p.1
 
 pub field_lt : (w low k : ℕ) → field w low k < 2 ^ k
 unfolding field

@@ -8,7 +8,7 @@ ghost use Rattle.bits.specs.Bits.{field, bit, num};
 fn moved(word: u32, places: u32) -> u32
     ensures { result ≡ word / 2 ^ places }
 {
-    if places < 32 { word >> places } else { 0 }
+    word.checked_shr(places).unwrap_or(0)
 }
 
 // The low bits of a word: from 32 on all of it.
@@ -39,5 +39,5 @@ pub fn bit(word: u32, k: u32) -> bool
 pub fn number(b: bool) -> u32
     ensures { result ≡ num b }
 {
-    if b { 1 } else { 0 }
+    u32::from(b)
 }

@@ -1,6 +1,6 @@
 -- The array of a core and its record are inverse to each other. Assumes nothing.
+use Rattle.std.specs.Prelude.{Option, ℕ}
 use Rattle.std.proofs.Common.{◌≡◌, ℕ, ◌+◌, ◌^◌, ◌<◌, true, ◌&&◌, List, [], ◌∷◌, ◌++◌, length, ap}
-use Rattle.memory.specs.declared.Fetched.{Fetched}
 use Rattle.steps.specs.declared.Phase.{Phase}
 use Rattle.steps.specs.declared.Phase.TheVariants.{Later}
 use Rattle.cycle.specs.declared.Control.{Control}
@@ -19,11 +19,11 @@ use Rattle.core_arrays.proofs.PhaseLaws.{phase-back, number-back}
 -- ---- from a core to its array and back
 
 -- a control with these parts that are two words or a case, and the others as they are
-remade : Control → Fetched → Fetched → Fetched → Phase → ℕ → ℕ → Control
+remade : Control → Option ℕ → Option ℕ → Option ℕ → Phase → ℕ → ℕ → Control
 remade c ir1 ir2 ix phase cycles retired =
     record { flags = c.flags; pipe = pipe c.pipe.pc ir1 ir2 ix; phase = phase; latches = c.latches; counts = counts cycles retired; stop = c.stop; board = c.board }
 
-remade-same : (c : Control) {i j x : Fetched} {p : Phase} {m n : ℕ}
+remade-same : (c : Control) {i j x : Option ℕ} {p : Phase} {m n : ℕ}
     → i ≡ c.pipe.ir1 → j ≡ c.pipe.ir2 → x ≡ c.pipe.ix → p ≡ c.phase → m ≡ c.counts.cycles → n ≡ c.counts.retired
     → remade c i j x p m n ≡ remade c c.pipe.ir1 c.pipe.ir2 c.pipe.ix c.phase c.counts.cycles c.counts.retired
 remade-same c a b d e f g = cc

@@ -1,17 +1,16 @@
 -- The two words of a fetched word and the fetched word are inverse to each other. Assumes nothing.
+use Rattle.std.specs.Prelude.{Option, ℕ, Some, None}
 use Rattle.std.proofs.Common.{◌≡◌, ℕ, Bool, true, false, ◌&&◌, ◌||◌, eqb, [], ◌∷◌, sym, refl, eqb-true}
 use mathlib.Core.Bool.{false≢true}
-use Rattle.memory.specs.declared.Fetched.{Fetched}
-use Rattle.memory.specs.declared.Fetched.TheVariants.{Word, Blank}
 use Rattle.core_arrays.specs.Fetched.{word_in, validity, fetched_words, fetched_of, stands_for_fetched}
 
-pub fetched-back : (f : Fetched) → fetched_of (word_in f) (validity f) ≡ f
-fetched-back (Word w) = refl
-fetched-back Blank = refl
+pub fetched-back : (f : Option ℕ) → fetched_of (word_in f) (validity f) ≡ f
+fetched-back (Some w) = refl
+fetched-back None = refl
 
-pub stands-fetched : (f : Fetched) → stands_for_fetched (word_in f) (validity f) ≡ true
-stands-fetched (Word w) = refl
-stands-fetched Blank = refl
+pub stands-fetched : (f : Option ℕ) → stands_for_fetched (word_in f) (validity f) ≡ true
+stands-fetched (Some w) = refl
+stands-fetched None = refl
 
 pub both : (a b : Bool) → (a && b) ≡ true → (a ≡ true) × (b ≡ true)
 both true b h = (refl, h)

@@ -1,25 +1,23 @@
 -- A fetched word as two words: itself and 1, or, where it is blank, 0 and 0.
-use Rattle.std.specs.Prelude.{ℕ, ◌+◌, Bool, ◌&&◌, ◌||◌, List, [], ◌∷◌, ◌==◌}
+use Rattle.std.specs.Prelude.{ℕ, ◌+◌, Bool, ◌&&◌, ◌||◌, List, [], ◌∷◌, ◌==◌, Option, Some, None}
 use Rattle.bits.specs.Choice.{pick}
-use Rattle.memory.specs.declared.Fetched.{Fetched}
-use Rattle.memory.specs.declared.Fetched.TheVariants.{Word, Blank}
 use Rattle.arrays.specs.Words.{at}
 
-abbrev pub word_in : Fetched → ℕ
-word_in (Word w) = w
-word_in Blank = 0
+abbrev pub word_in : Option ℕ → ℕ
+word_in (Some w) = w
+word_in None = 0
 
-abbrev pub validity : Fetched → ℕ
-validity (Word w) = 1
-validity Blank = 0
+abbrev pub validity : Option ℕ → ℕ
+validity (Some w) = 1
+validity None = 0
 
-abbrev pub fetched_words : Fetched → List ℕ
+abbrev pub fetched_words : Option ℕ → List ℕ
 fetched_words f = word_in f ∷ validity f ∷ []
 
-abbrev pub fetched_of : ℕ → ℕ → Fetched
-fetched_of w valid = pick (valid == 0) Blank (Word w)
+abbrev pub fetched_of : ℕ → ℕ → Option ℕ
+fetched_of w valid = pick (valid == 0) None (Some w)
 
-abbrev pub fetched_at : List ℕ → ℕ → Fetched
+abbrev pub fetched_at : List ℕ → ℕ → Option ℕ
 fetched_at words n = fetched_of (at words n) (at words (n + 1))
 
 -- a word is not half valid

@@ -5,32 +5,31 @@ ghost use Rattle.core_arrays.specs.Fetched.{fetched_words, fetched_at, stands_at
 ghost use Rattle.core_arrays.specs.Places.{core_word_count};
 
 use crate::CoreArray;
-use memory::Fetched;
 
-pub fn put_fetched(words: &mut CoreArray, at: usize, f: Fetched)
+pub fn put_fetched(words: &mut CoreArray, at: usize, f: Option<u32>)
     requires { at + 1 < core_word_count }
     ensures { words.new ≡ put words.old at (fetched_words f) }
 {
     match f {
-        Fetched::Word(word) => {
+        Some(word) => {
             words[at] = word;
             words[at + 1] = 1;
         }
-        Fetched::Blank => {
+        None => {
             words[at] = 0;
             words[at + 1] = 0;
         }
     }
 }
 
-pub fn fetched_at(words: &CoreArray, at: usize) -> Fetched
+pub fn fetched_at(words: &CoreArray, at: usize) -> Option<u32>
     requires { at + 1 < core_word_count }
     ensures { result ≡ fetched_at words.now at }
 {
     if words[at + 1] == 0 {
-        Fetched::Blank
+        None
     } else {
-        Fetched::Word(words[at])
+        Some(words[at])
     }
 }
 

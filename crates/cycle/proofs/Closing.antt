@@ -1,12 +1,12 @@
 -- What the functions of `cycle` join: the cycle of a phase, and the next core.
 -- Assumes nothing.
+use Rattle.std.specs.Prelude.{Some, None}
 use Prim.Native.Nat.{ℕ}
 use mathlib.Core.Path.{◌≡◌, sym, ap, ◌∙◌}
 use mathlib.Core.Bool.{Bool, true, false}
 use Rattle.bits.specs.Bits.{field}
 use Rattle.word.specs.Reader.{read_of}
 use Rattle.condition.specs.Condition.{passes}
-use Rattle.memory.specs.declared.Fetched.TheVariants.{Word, Blank}
 use Rattle.memory.specs.Memory.{Memory}
 use Rattle.stops.specs.Stops.{due}
 use Rattle.steps.specs.declared.Phase.{Phase}
@@ -22,7 +22,7 @@ use Rattle.cycle.specs.Cycle.{refilled, skips, quiet, own_of, fetches, close, cy
 
 module _ (m : Machine) {r : Own} where
   -- step 1 of a word: its condition passes, or fails
-  module _ {w n : ℕ} {b : Bool} (ix : m.control.pipe.ix ≡ Word w) (e : n ≡ field w 28 4) (p : b ≡ passes n m.control.flags) where
+  module _ {w n : ℕ} {b : Bool} (ix : m.control.pipe.ix ≡ Some w) (e : n ≡ field w 28 4) (p : b ≡ passes n m.control.flags) where
     pub passing : b ≡ true → r ≡ first_step (read_of w) m.registers m.control.flags m.control.pipe.pc (lent m) → r ≡ own_of Step1 m
     unfolding own_of due
     passing t q = q ∙ rw (ix, ← e, ← p, t)
@@ -31,16 +31,16 @@ module _ (m : Machine) {r : Own} where
     unfolding own_of due
     failing t d q = q ∙ ap (quiet m) d ∙ rw (ix, ← e, ← p, t)
 
-  pub blank-first : m.control.pipe.ix ≡ Blank → r ≡ quiet m (Done Start) → r ≡ own_of Step1 m
+  pub blank-first : m.control.pipe.ix ≡ None → r ≡ quiet m (Done Start) → r ≡ own_of Step1 m
   unfolding own_of due
   blank-first e q = q ∙ rw e
 
   module _ (k : ℕ) where
-    pub blank-later : m.control.pipe.ix ≡ Blank → r ≡ quiet m (Done Start) → r ≡ own_of (Later k) m
+    pub blank-later : m.control.pipe.ix ≡ None → r ≡ quiet m (Done Start) → r ≡ own_of (Later k) m
     unfolding own_of
     blank-later e q = q ∙ rw e
 
-    pub word-later : {w : ℕ} → m.control.pipe.ix ≡ Word w
+    pub word-later : {w : ℕ} → m.control.pipe.ix ≡ Some w
         → r ≡ later_step (read_of w) k m.registers m.control.flags m.control.pipe.pc m.control.latches (lent m) → r ≡ own_of (Later k) m
     unfolding own_of
     word-later e q = q ∙ rw e

@@ -1,11 +1,9 @@
 -- A cycle: what the phase does, the fetch, and the one place where the next core is built (paper 01, "Pipeline").
-use Rattle.std.specs.Prelude.{ℕ, suc}
+use Rattle.std.specs.Prelude.{ℕ, suc, Option, Some, None}
 use Rattle.word.specs.Reader.{read_of}
 use Rattle.datapath.specs.Counter.{ahead, counter}
 use Rattle.memory.specs.Memory.{Memory, word_at}
 use Rattle.stops.specs.Stops.{Due, no_word_there, skipped, executes, due}
-use Rattle.memory.specs.declared.Fetched.{Fetched}
-use Rattle.memory.specs.declared.Fetched.TheVariants.{Word, Blank}
 use Rattle.steps.specs.declared.Phase.{Phase}
 use Rattle.steps.specs.declared.Phase.TheVariants.{Step1, Refill1, Refill2, Later}
 use Rattle.steps.specs.declared.Ended.{Ended}
@@ -19,9 +17,9 @@ use Rattle.cycle.specs.declared.Control.{Control}
 use Rattle.cycle.specs.Machine.{Machine, machine, lent, pipe, counts}
 
 -- a refill with IX blank is the start's
-abbrev pub refilled : Fetched → Ended
-refilled Blank = Start
-refilled (Word w) = Executed
+abbrev pub refilled : Option ℕ → Ended
+refilled None = Start
+refilled (Some w) = Executed
 
 -- how a failed condition ends, at A+8 in PC: its one step is done, and the counter goes on
 abbrev pub skips : ℕ → After
@@ -38,9 +36,9 @@ first_due skipped m = quiet m (skips m.control.pipe.pc)
 first_due (executes i) m = first_step i m.registers m.control.flags m.control.pipe.pc (lent m)
 
 -- step k + 2 of the word in IX
-abbrev pub later_of : ℕ → Fetched → Machine → Own
-later_of k Blank m = quiet m (Done Start)
-later_of k (Word w) m = later_step (read_of w) k m.registers m.control.flags m.control.pipe.pc m.control.latches (lent m)
+abbrev pub later_of : ℕ → Option ℕ → Machine → Own
+later_of k None m = quiet m (Done Start)
+later_of k (Some w) m = later_step (read_of w) k m.registers m.control.flags m.control.pipe.pc m.control.latches (lent m)
 
 -- what the cycle of this phase does besides the fetch
 unfoldable pub own_of : Phase → Machine → Own

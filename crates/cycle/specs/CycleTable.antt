@@ -1,10 +1,8 @@
 -- What the core holds after each cycle of each kind of instruction, from a start: one table.
-use Rattle.std.specs.Prelude.{ℕ, zero, suc, ◌≡◌, List, [], ◌∷◌, eqb, length}
+use Rattle.std.specs.Prelude.{ℕ, zero, suc, ◌≡◌, List, [], ◌∷◌, eqb, length, Option, None}
 use Rattle.bits.specs.Choice.{pick}
 use Rattle.memory.specs.declared.Board.{Board}
 use Rattle.memory.specs.Memory.{memory_of, word_at}
-use Rattle.memory.specs.declared.Fetched.{Fetched}
-use Rattle.memory.specs.declared.Fetched.TheVariants.{Blank}
 use Rattle.steps.specs.declared.Phase.{Phase}
 use Rattle.steps.specs.declared.Phase.TheVariants.{Step1, Refill1, Refill2, Later}
 use Rattle.steps.specs.declared.Latches.{Latches}
@@ -44,7 +42,7 @@ abbrev pub started : Machine
 started = machine registers (fresh_control 2 0 board) (bytes words)
 
 -- the word fetched at an address
-abbrev pub at : ℕ → Fetched
+abbrev pub at : ℕ → Option ℕ
 at a = word_at (memory_of board (bytes words)) a
 
 -- a register and what was written to it
@@ -68,7 +66,7 @@ pub record Row : Type 0 where
   pub retired : ℕ
   pub writes : List Write
 
-abbrev pub row : Phase → ℕ → Fetched → Fetched → Fetched → ℕ → ℕ → ℕ → ℕ → List Write → Row
+abbrev pub row : Phase → ℕ → Option ℕ → Option ℕ → Option ℕ → ℕ → ℕ → ℕ → ℕ → List Write → Row
 row ph pc ir1 ir2 ix address datum base retired writes =
     record { phase = ph; pipe = pipe pc ir1 ir2 ix; latches = latches address datum base; retired = retired; writes = writes }
 
@@ -89,8 +87,8 @@ rows (suc n) before m =
 abbrev pub table : List Row
 table =
     -- start, and its refills
-    row Refill1 0x00 Blank Blank Blank 0 0 0 0 []
-    ∷ row Refill2 0x04 (at 0x00) Blank Blank 0 0 0 0 []
+    row Refill1 0x00 None None None 0 0 0 0 []
+    ∷ row Refill2 0x04 (at 0x00) None None 0 0 0 0 []
     ∷ row Step1 0x08 (at 0x04) (at 0x00) (at 0x00) 0 0 0 0 []
     -- shift by register: all done in the second step
     ∷ row (Later 0) 0x0C (at 0x08) (at 0x04) (at 0x00) 0 0 0 0 []

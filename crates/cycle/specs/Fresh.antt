@@ -1,6 +1,5 @@
 -- What an accepted start hands back but the registers.
-use Rattle.std.specs.Prelude.{ℕ}
-use Rattle.memory.specs.declared.Fetched.TheVariants.{Blank}
+use Rattle.std.specs.Prelude.{ℕ, None}
 use Rattle.memory.specs.declared.Board.{Board}
 use Rattle.steps.specs.declared.Phase.TheVariants.{Refill1}
 use Rattle.steps.specs.Steps.{idle}
@@ -11,7 +10,7 @@ use Rattle.cycle.specs.Machine.{pipe, counts}
 abbrev pub fresh_control : ℕ → ℕ → Board → Control
 fresh_control flags entry board = record {
   flags = flags;
-  pipe = pipe entry Blank Blank Blank;
+  pipe = pipe entry None None None;
   phase = Refill1;
   latches = idle;
   counts = counts 0 0;

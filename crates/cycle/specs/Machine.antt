@@ -1,7 +1,6 @@
 -- The core with the memory that it is lent.
-use Rattle.std.specs.Prelude.{ℕ, ◌^◌, List}
+use Rattle.std.specs.Prelude.{ℕ, ◌^◌, List, Option}
 use Rattle.datapath.specs.Counter.{behind}
-use Rattle.memory.specs.declared.Fetched.{Fetched}
 use Rattle.memory.specs.Memory.{Memory, memory_of}
 use Rattle.registers.specs.State.{State, state}
 use Rattle.cycle.specs.declared.Pipe.{Pipe}
@@ -24,7 +23,7 @@ lent m = memory_of m.control.board m.memory
 abbrev pub state_of : Machine → State
 state_of m = state m.registers m.control.flags (behind m.control.pipe.pc 8) (lent m)
 
-abbrev pub pipe : ℕ → Fetched → Fetched → Fetched → Pipe
+abbrev pub pipe : ℕ → Option ℕ → Option ℕ → Option ℕ → Pipe
 pipe pc ir1 ir2 ix = record { pc = pc; ir1 = ir1; ir2 = ir2; ix = ix }
 
 abbrev pub counts : ℕ → ℕ → Counts

@@ -3,7 +3,7 @@ ghost use Rattle.std.specs.Prelude.{◌≡◌};
 ghost use Rattle.cycle.specs.Fresh.{fresh_control};
 
 use crate::{Control, Counts, Pipe};
-use memory::{Board, Fetched};
+use memory::Board;
 use steps::{Latches, Phase};
 
 pub fn fresh(flags: u32, entry: u32, board: Board) -> Control
@@ -11,9 +11,9 @@ pub fn fresh(flags: u32, entry: u32, board: Board) -> Control
 {
     let pipe = Pipe {
         pc: entry,
-        ir1: Fetched::Blank,
-        ir2: Fetched::Blank,
-        ix: Fetched::Blank,
+        ir1: None,
+        ir2: None,
+        ix: None,
     };
     let latches = Latches {
         address: 0,

@@ -6,16 +6,16 @@ pub mod fresh;
 mod own;
 pub mod stop;
 
-use memory::{Board, Fetched};
+use memory::Board;
 use steps::{Latches, Phase};
 
 // The counter and the words fetched. IX holds the word of the instruction under way.
 #[derive(Clone, Copy)]
 pub struct Pipe {
     pub pc: u32,
-    pub ir1: Fetched,
-    pub ir2: Fetched,
-    pub ix: Fetched,
+    pub ir1: Option<u32>,
+    pub ir2: Option<u32>,
+    pub ix: Option<u32>,
 }
 
 #[derive(Clone, Copy)]

@@ -9,7 +9,6 @@ ghost use Rattle.cycle.specs.Cycle.{refilled, skips, own_of};
 use crate::Control;
 use bits::field;
 use condition::passes;
-use memory::Fetched;
 use steps::ending::still;
 use steps::first::first_step;
 use steps::later::later_step;
@@ -28,14 +27,14 @@ fn step1(c: Control, registers: &mut [u32; 15]) -> Step
     let pipe = c.pipe;
     let ix = pipe.ix;
     match ix {
-        Fetched::Word(word) => {
+        Some(word) => {
             if passes(field(word, 28, 4), c.flags) {
                 first_step(word, registers, c.flags, pipe.pc)
             } else {
                 still(c.flags, skips(pipe.pc))
             }
         }
-        Fetched::Blank => still(c.flags, After::Done(Ended::Start)),
+        None => still(c.flags, After::Done(Ended::Start)),
     }
 }
 
@@ -47,18 +46,18 @@ fn step_under_way(c: Control, k: u32, registers: &mut [u32; 15], memory: &mut [u
     let l = c.latches;
     let board = c.board;
     match ix {
-        Fetched::Word(word) => later_step(word, k, registers, memory, c.flags, pipe.pc, l, board),
-        Fetched::Blank => still(c.flags, After::Done(Ended::Start)),
+        Some(word) => later_step(word, k, registers, memory, c.flags, pipe.pc, l, board),
+        None => still(c.flags, After::Done(Ended::Start)),
     }
 }
 
 // A refill with IX blank is the start's.
-fn refilled(ix: Fetched) -> Ended
+fn refilled(ix: Option<u32>) -> Ended
     ensures { result ≡ refilled ix }
 {
     match ix {
-        Fetched::Word(_) => Ended::Executed,
-        Fetched::Blank => Ended::Start,
+        Some(_) => Ended::Executed,
+        None => Ended::Start,
     }
 }
 

@@ -12,12 +12,7 @@ use stops::stop::stop_for;
 pub fn is_step1(phase: Phase) -> bool
     ensures { result ≡ is_step1 phase }
 {
-    match phase {
-        Phase::Step1 => true,
-        Phase::Refill1 => false,
-        Phase::Refill2 => false,
-        Phase::Later(_) => false,
-    }
+    matches!(phase, Phase::Step1)
 }
 
 // A stop is found before step 1 and nowhere else.

@@ -2,3 +2,4 @@ pub mod ByteLaws
 pub mod Laws
 pub mod Lanes
 pub mod Fetches
+pub mod Chunks

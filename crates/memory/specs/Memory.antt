@@ -1,9 +1,7 @@
 -- Memory as a board answers: what is fetched, read and written at an address.
-use Rattle.std.specs.Prelude.{ℕ, List, ltb}
+use Rattle.std.specs.Prelude.{ℕ, List, ltb, Option, Some, None}
 use Rattle.bits.specs.Choice.{pick}
 use Rattle.memory.specs.declared.Board.{Board}
-use Rattle.memory.specs.declared.Fetched.{Fetched}
-use Rattle.memory.specs.declared.Fetched.TheVariants.{Word, Blank}
 use Rattle.memory.specs.Bytes.{word_in, with_word, byte_in, with_byte}
 
 -- lent bytes on a board
@@ -35,5 +33,5 @@ abbrev pub write_byte : Memory → ℕ → ℕ → Memory
 write_byte m a v = memory_of m.board (with_byte m.bytes (place m.board a) v)
 
 -- the word that a fetch at a gives: blank outside memory
-unfoldable pub word_at : Memory → ℕ → Fetched
-word_at m a = pick (ltb a (limit m.board)) (Word (read_word m a)) Blank
+unfoldable pub word_at : Memory → ℕ → Option ℕ
+word_at m a = pick (ltb a (limit m.board)) (Some (read_word m a)) None

@@ -13,13 +13,6 @@ pub struct Board {
     pub size: u32,
 }
 
-// What a fetch finds.
-#[derive(Clone, Copy)]
-pub enum Fetched {
-    Word(u32),
-    Blank,
-}
-
 // Where an address lies in the lent bytes.
 pub fn place(board: Board, address: u32) -> u32
     ensures { result ≡ place board address }
@@ -58,13 +51,13 @@ pub fn write_byte(memory: &mut [u8], board: Board, address: u32, value: u32)
     bytes::put_byte(memory, place(board, address), value);
 }
 
-// The word that a fetch gives; blank outside.
-pub fn fetch(memory: &[u8], board: Board, address: u32) -> Fetched
+// The word that a fetch gives; none, a blank, outside.
+pub fn fetch(memory: &[u8], board: Board, address: u32) -> Option<u32>
     ensures { result ≡ word_at (memory_of board memory.now) address }
 {
     if address < limit(board) {
-        Fetched::Word(read_word(memory, board, address))
+        Some(read_word(memory, board, address))
     } else {
-        Fetched::Blank
+        None
     }
 }

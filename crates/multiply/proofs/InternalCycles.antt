@@ -1,5 +1,6 @@
 -- m, by its ranges, by its bounds, and by the length of the value.
 -- Assumes nothing.
+use Rattle.std.specs.Prelude.{min}
 use Prim.Native.Nat.{ℕ, zero, suc, ◌+◌, ◌-◌, ◌*◌, ◌/◌, ◌^◌, ◌≤◌, ◌<◌}
 use mathlib.Core.Path.{◌≡◌, refl, sym, ap, ◌∙◌, subst}
 use mathlib.Core.Bool.{Bool, true, false}
@@ -101,7 +102,7 @@ powers i j v a b = go (ltb i j) refl
 
 -- so many, but no more than 16
 abbrev pub at_most16 : ℕ → ℕ
-at_most16 m = pick (ltb m 16) m 16
+at_most16 m = min m 16
 
 -- m by the place j of the value's highest bit
 by-top : (v j : ℕ) → 2 ^ j ≤ v → v < 2 ^ suc j → at_most16 ((3 + j) / 2) ≡ m_of v
@@ -120,11 +121,13 @@ by-top v (suc i) a b = go (ltb v (2 ^ 29)) refl
         let s = powers (suc i) 29 v a l in
         let low : 2 ^ (2 * q - 3) ≤ 2 ^ suc i = pow_mono (omega arith) in
         let high : 2 ^ suc (suc i) ≤ 2 ^ (2 * q - 1) = pow_mono (omega arith) in
-        rw (lt-ltb q 16 (omega arith)) (sym (((ranges v).between two l q).1 (omega arith, omega arith)))
+        let e : min q 16 ≡ q = omega arith in
+        rw e (sym (((ranges v).between two l q).1 (omega arith, omega arith)))
     go false e =
         let l = ltb-false v (2 ^ 29) e in
         let s = powers 29 (suc (suc i)) v l b in
-        rw (le-ltb q 16 (omega arith)) (sym ((ranges v).high l))
+        let e : min q 16 ≡ 16 = omega arith in
+        rw e (sym ((ranges v).high l))
 
 -- and by its leading zeros
 pub by_length : (v : ℕ) → v < 2 ^ 32 → at_most16 ((34 - count_leading_zeros 32 v) / 2) ≡ m_of v

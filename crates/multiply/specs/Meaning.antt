@@ -1,9 +1,8 @@
 -- A multiply by second roads: Rm added once for each 1 that Rs counts, and the flags bit by bit.
-use Rattle.std.specs.Prelude.{ℕ, suc, ◌/◌, ◌%◌, ◌^◌, ◌<◌, ◌≡◌, true, false, List, ◌≢◌, eqb, length, get_or}
+use Rattle.std.specs.Prelude.{ℕ, suc, ◌/◌, ◌%◌, ◌^◌, ◌<◌, ◌≡◌, true, false, List, ◌≢◌, eqb, length, get_or, None}
 use Rattle.bits.specs.Bits.{num}
 use Rattle.word.specs.declared.Multiply.{Multiply}
 use Rattle.datapath.specs.Alu.{sum}
-use Rattle.registers.specs.declared.Goes.TheVariants.{Next}
 use Rattle.multiply.specs.Multiply.{product, multiplied}
 
 -- the register that is written, and the flags, afterwards
@@ -20,7 +19,7 @@ pub record Multiplies (i : Multiply) (g : List ℕ) (f : ℕ) : Type 0 where
   pub mla : i.accumulate ≡ true → rd_after i g f ≡ product (get_or g i.rm 0) (get_or g i.rs 0) (get_or g i.rn 0)
   -- no other register changes, and the counter goes on
   pub others : (r : ℕ) → r ≢ i.rd → get_or (multiplied i g f).registers r 0 ≡ get_or g r 0
-  pub goes : (multiplied i g f).goes ≡ Next
+  pub goes : (multiplied i g f).goes ≡ None
   -- without S the flags are kept
   pub kept : i.s ≡ false → flags_out i g f ≡ f
   -- with S, N is bit 31 of the result and Z is 1 where it is 0

@@ -1,9 +1,8 @@
 -- What a multiply leaves (paper 02 §1). None of its four fields is 15 (rule 10 of 23), so that what R15 reads as is no matter: 0.
-use Rattle.std.specs.Prelude.{ℕ, ◌+◌, ◌*◌, ◌%◌, ◌^◌, List}
+use Rattle.std.specs.Prelude.{ℕ, ◌+◌, ◌*◌, ◌%◌, ◌^◌, List, None}
 use Rattle.bits.specs.Choice.{pick}
 use Rattle.word.specs.declared.Multiply.{Multiply}
 use Rattle.datapath.specs.Alu.{computed, flags_of, carry_of, overflow_of}
-use Rattle.registers.specs.declared.Goes.TheVariants.{Next}
 use Rattle.registers.specs.Registers.{register, put, Out, out}
 
 -- Rm×Rs, plus an addend, modulo 2^32
@@ -28,4 +27,4 @@ unfoldable pub flags_after : Multiply → ℕ → ℕ → ℕ
 flags_after i f value = pick i.s (flags_of (computed value (carry_of f) (overflow_of f))) f
 
 unfoldable pub multiplied : Multiply → List ℕ → ℕ → Out
-multiplied i g f = out (put g i.rd (product_of i g)) (flags_after i f (product_of i g)) Next
+multiplied i g f = out (put g i.rd (product_of i g)) (flags_after i f (product_of i g)) None

@@ -2,7 +2,6 @@
 #![tactic(auto)]
 
 ghost use Rattle.std.specs.Prelude.{◌≡◌};
-ghost use Rattle.registers.specs.declared.Goes.TheVariants.{Next};
 ghost use Rattle.registers.specs.Registers.{out};
 ghost use Rattle.multiply.specs.Multiply.{addend_of, product, product_of, flags_after, multiplied};
 ghost use Rattle.multiply.specs.InternalCycles.{m_of};
@@ -16,8 +15,7 @@ use word::Multiply;
 pub fn m_of(rs: u32) -> u32
     ensures { result ≡ m_of rs }
 {
-    let m = (34 - u32::leading_zeros(rs)) / 2;
-    if m < 16 { m } else { 16 }
+    ((34 - rs.leading_zeros()) / 2).min(16)
 }
 
 fn addend_of(i: Multiply, registers: &[u32; 15]) -> u32
@@ -30,11 +28,10 @@ fn addend_of(i: Multiply, registers: &[u32; 15]) -> u32
     }
 }
 
-// The whole sum fits 64 bits.
 fn product(rm: u32, rs: u32, addend: u32) -> u32
     ensures { result ≡ product rm rs addend }
 {
-    ((rm as u64 * rs as u64 + addend as u64) % 0x100000000) as u32
+    rm.wrapping_mul(rs).wrapping_add(addend)
 }
 
 fn product_of(i: Multiply, registers: &[u32; 15]) -> u32
@@ -49,12 +46,10 @@ fn flags_after(i: Multiply, flags: u32, value: u32) -> u32
     ensures { result ≡ flags_after i flags value }
 {
     if i.s {
-        let carry = carry_of(flags);
-        let overflow = overflow_of(flags);
         flags_of(Computed {
             value,
-            carry,
-            overflow,
+            carry: carry_of(flags),
+            overflow: overflow_of(flags),
         })
     } else {
         flags
@@ -63,7 +58,7 @@ fn flags_after(i: Multiply, flags: u32, value: u32) -> u32
 
 // Rd is written, and the flags after it are handed back; the counter goes on.
 pub fn multiply(i: Multiply, registers: &mut [u32; 15], flags: u32) -> u32
-    ensures { out registers.new result Next ≡ multiplied i registers.old flags }
+    ensures { out registers.new result None ≡ multiplied i registers.old flags }
 {
     let value = product_of(i, registers);
     put(registers, i.rd, value);

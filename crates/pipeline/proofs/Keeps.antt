@@ -1,5 +1,6 @@
 -- What a cycle keeps: the number of the registers, the length of memory, and flags below 16.
 -- Assumes nothing.
+use Rattle.std.specs.Prelude.{Option, ℕ, Some, None}
 use Prim.Native.Nat.{ℕ, zero, suc, ◌<◌}
 use mathlib.Core.Path.{◌≡◌, refl, ◌∙◌}
 use mathlib.Core.List.{List, [], ◌∷◌}
@@ -19,13 +20,10 @@ use Rattle.word.specs.Reader.{read_of}
 use Rattle.datapath.specs.Alu.{flags_of, stores_result}
 use Rattle.datapath.specs.declared.Computed.{Computed}
 use Rattle.datapath.proofs.Flags.{flags-lt}
-use Rattle.memory.specs.declared.Fetched.{Fetched}
-use Rattle.memory.specs.declared.Fetched.TheVariants.{Word, Blank}
 use Rattle.datapath.specs.Counter.{behind}
 use Rattle.memory.specs.Memory.{Memory}
 use Rattle.stops.specs.Stops.{Due, no_word_there, skipped, executes, due}
 use Rattle.memory.proofs.Laws.{write-length}
-use Rattle.registers.specs.declared.Goes.TheVariants.{Next, To}
 use Rattle.registers.specs.Registers.{put, Out, out, arrives}
 use Rattle.processing.specs.Processing.{flags_after, stored, processed, by_register?}
 use Rattle.multiply.specs.Multiply as multiply
@@ -53,7 +51,7 @@ arrives-keeps : (g : List ℕ) (f n v : ℕ) → KeepsOut g f (arrives g f n v)
 unfolding arrives
 arrives-keeps g f n v = go (ltb n 15)
   where
-    go : (b : Bool) → KeepsOut g f (pick b (out (set g n v) f Next) (out g f (To v)))
+    go : (b : Bool) → KeepsOut g f (pick b (out (set g n v) f None) (out g f (Some v)))
     go true = (length-set g n v, λ h. h)
     go false = (refl, λ h. h)
 
@@ -70,7 +68,7 @@ processed-keeps : (i : Processing) (g : List ℕ) (f pc : ℕ) → KeepsOut g f 
 unfolding processed stored
 processed-keeps i g f pc = go (stores_result i.operation) _
   where
-    go : (b : Bool) (r : Computed) → KeepsOut g f (pick b (arrives g (flags_after i f r) i.rd r.value) (out g (flags_after i f r) Next))
+    go : (b : Bool) (r : Computed) → KeepsOut g f (pick b (arrives g (flags_after i f r) i.rd r.value) (out g (flags_after i f r) None))
     go true r = let a = arrives-keeps g (flags_after i f r) i.rd r.value in (a.0, λ h. a.1 (flags-after i f r h))
     go false r = (refl, flags-after i f r)
 
@@ -163,9 +161,9 @@ own-keeps Step1 m = go (due m.control.pipe.ix m.control.flags)
     go (executes i) = first-keeps i m.registers m.control.flags m.control.pipe.pc (lent m)
 own-keeps (Later k) m = go m.control.pipe.ix
   where
-    go : (x : Fetched) → Keeps m.registers m.control.flags (lent m) (later_of k x m)
-    go Blank = (refl, refl, λ h. h)
-    go (Word w) = later-keeps (read_of w) k m.registers m.control.flags m.control.pipe.pc m.control.latches (lent m)
+    go : (x : Option ℕ) → Keeps m.registers m.control.flags (lent m) (later_of k x m)
+    go None = (refl, refl, λ h. h)
+    go (Some w) = later-keeps (read_of w) k m.registers m.control.flags m.control.pipe.pc m.control.latches (lent m)
 
 pub reach-alike : (m : Machine) (t : ℕ) → (length (reach m t).registers ≡ length m.registers) × (length (reach m t).memory ≡ length m.memory)
 unfolding reach cycle

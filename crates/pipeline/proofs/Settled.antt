@@ -1,5 +1,6 @@
 -- Settle: the cycles left come to the next boundary, and a run of so many finds no stop.
 -- Assumes nothing.
+use Rattle.std.specs.Prelude.{Option, ℕ, Some, None}
 use Prim.Native.Nat.{ℕ, zero, suc, ◌%◌, ◌≤◌, ◌<◌}
 use mathlib.Core.Path.{◌≡◌, refl, sym, ap, ◌∙◌}
 use mathlib.Core.Bool.{Bool, true, false, not, ◌&&◌, ◌||◌, false≢true}
@@ -11,8 +12,6 @@ use Rattle.bits.specs.Choice.{pick}
 use Rattle.bits.specs.Bits.{field}
 use Rattle.condition.specs.Condition.{passes}
 use Rattle.word.specs.Reader.{read_of}
-use Rattle.memory.specs.declared.Fetched.{Fetched}
-use Rattle.memory.specs.declared.Fetched.TheVariants.{Word, Blank}
 use Rattle.semantics.specs.Duration.{own_steps, stores_counter, duration_of}
 use Rattle.semantics.proofs.Durations.{steps-short}
 use Rattle.datapath.specs.Counter.{counters}
@@ -52,13 +51,13 @@ off : (m : Machine) → is_step1 m.control.phase ≡ false → m.control.phase �
 off m o e = false≢true (sym o ∙ ap is_step1 e)
 
 -- a step under way of a record that is not bad is one that its word has
-in_step : (m : Machine) (ph : Phase) (x : Fetched) → bad_phase ph m ≡ false → m.control.pipe.ix ≡ x → InStep ph x m.registers
+in_step : (m : Machine) (ph : Phase) (x : Option ℕ) → bad_phase ph m ≡ false → m.control.pipe.ix ≡ x → InStep ph x m.registers
 unfolding due
 in_step m Step1 x z e = tt
 in_step m Refill1 x z e = tt
 in_step m Refill2 x z e = tt
-in_step m (Later k) Blank z e = false≢true (sym z ∙ ap (λ (y : Fetched). bad_step (due y m.control.flags) k m) e)
-in_step m (Later k) (Word w) z e = go (passes (field w 28 4) m.control.flags) (sym (ap (λ (y : Fetched). bad_step (due y m.control.flags) k m) e) ∙ z)
+in_step m (Later k) None z e = false≢true (sym z ∙ ap (λ (y : Option ℕ). bad_step (due y m.control.flags) k m) e)
+in_step m (Later k) (Some w) z e = go (passes (field w 28 4) m.control.flags) (sym (ap (λ (y : Option ℕ). bad_step (due y m.control.flags) k m) e) ∙ z)
   where
     go : (t : Bool) → bad_step (pick t (executes (read_of w)) skipped) k m ≡ false → suc k < own_steps (read_of w) m.registers
     go true z = omega (arith, (to-mid (read_of w) k m z).has, own-steps (read_of w) m.registers)
@@ -153,12 +152,12 @@ few-left m = go m.control.phase m.control.pipe.ix
     refilled true = omega arith
     refilled false = omega arith
 
-    go : (ph : Phase) (x : Fetched) → left_in ph x m.registers ≤ 20
+    go : (ph : Phase) (x : Option ℕ) → left_in ph x m.registers ≤ 20
     go Step1 x = omega arith
     go Refill1 x = omega arith
     go Refill2 x = omega arith
-    go (Later k) Blank = omega arith
-    go (Later k) (Word w) = omega (arith, steps-short (read_of w) m.registers, refilled (stores_counter (read_of w)))
+    go (Later k) None = omega arith
+    go (Later k) (Some w) = omega (arith, steps-short (read_of w) m.registers, refilled (stores_counter (read_of w)))
 
 module _ (lent : ℕ) (m : Machine) where
   pub same-refusal : settle_refusal lent m ≡ refusal lent (cycles_left m) m

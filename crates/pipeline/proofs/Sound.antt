@@ -1,5 +1,6 @@
 -- A core that passes the test for a bad record passes it after a cycle.
 -- Assumes nothing.
+use Rattle.std.specs.Prelude.{Option, ℕ, Some, None}
 use Prim.Native.Nat.{ℕ, zero, suc, ◌+◌, ◌-◌, ◌%◌, ◌≤◌, ◌<◌}
 use mathlib.Core.Path.{◌≡◌, refl, sym, ap, ◌∙◌}
 use mathlib.Core.List.{List, [], ◌∷◌}
@@ -21,10 +22,6 @@ use Rattle.datapath.specs.Counter.{ahead, behind, counters}
 use Rattle.datapath.proofs.Counters.{ahead-lt, ahead-behind, ahead-word, counter-lt, counter-word}
 use Rattle.memory.specs.declared.Board.{Board}
 use Rattle.memory.specs.Memory.{Memory, memory_of, limit}
-use Rattle.memory.specs.declared.Fetched.{Fetched}
-use Rattle.memory.specs.declared.Fetched.TheVariants.{Word, Blank}
-use Rattle.registers.specs.declared.Goes.{Goes}
-use Rattle.registers.specs.declared.Goes.TheVariants.{Next, To}
 use Rattle.registers.specs.State.{State, state}
 use Rattle.registers.specs.Registers.{arrives}
 use Rattle.processing.specs.Processing.{processed, by_register?}
@@ -105,9 +102,9 @@ Ok i f n o (Jump w) = Unit {0}
 abbrev OkOwn : Instruction → ℕ → Board → Own → Type 0
 OkOwn i f n o = Ok i f n o o.step.after
 
-ends-ok : (i : Instruction) (f : ℕ) (n : Board) (o : Own) (e : Goes) → Ok i f n o (ends e)
-ends-ok i f n o Next = tt
-ends-ok i f n o (To w) = tt
+ends-ok : (i : Instruction) (f : ℕ) (n : Board) (o : Own) (e : Option ℕ) → Ok i f n o (ends e)
+ends-ok i f n o None = tt
+ends-ok i f n o (Some w) = tt
 
 -- one word moved, and the rest is inside; addresses inside do not wrap
 first-inside : (m a : ℕ) (n : Board) → outside (span (suc m) a) n ≡ false → (a < limit n) × (outside (span m (a + 4)) n ≡ false)
@@ -262,7 +259,7 @@ module _ (n : Board) (short : n.size ≤ most_bytes) where
   later-ok (Instruction.Other w) k g f pc l mem m = tt
 
   -- what is fine for the instruction of the word in IX is fine for the record
-  of-ok : (w : ℕ) (o : Own) (e : After) (p : Pipe) (f : ℕ) (m : Machine) → p.ix ≡ Word w → passes (field w 28 4) f ≡ true → Ok (read_of w) f n o e
+  of-ok : (w : ℕ) (o : Own) (e : After) (p : Pipe) (f : ℕ) (m : Machine) → p.ix ≡ Some w → passes (field w 28 4) f ≡ true → Ok (read_of w) f n o e
       → m.control.pipe.ix ≡ (pipe_after e p).ix → m.control.flags ≡ o.step.flags → m.control.latches.address ≡ o.step.latches.address
       → m.control.board ≡ n → m.registers ≡ o.registers
       → bad_phase (phase_after e) m ≡ false
@@ -277,14 +274,14 @@ module _ (n : Board) (short : n.size ≤ most_bytes) where
   of-ok w o (Jump v) p f m x ps ok i fl a b rg = refl
 
   -- the phase that a cycle leaves, of a core in its parts
-  module _ (g : List ℕ) (f pc : ℕ) (ir1 ir2 : Fetched) (l : Latches) (cs : Counts) (q : ℕ) (mem : List ℕ) where
-    abbrev core : Phase → Fetched → Machine
+  module _ (g : List ℕ) (f pc : ℕ) (ir1 ir2 : Option ℕ) (l : Latches) (cs : Counts) (q : ℕ) (mem : List ℕ) where
+    abbrev core : Phase → Option ℕ → Machine
     core ph x = machine g (record { flags = f; pipe = pipe pc ir1 ir2 x; phase = ph; latches = l; counts = cs; stop = q; board = n }) mem
 
-    abbrev step_of : Phase → Fetched → Step
+    abbrev step_of : Phase → Option ℕ → Step
     step_of ph x = (own_of ph (core ph x)).step
 
-    own-fine : (ph : Phase) (x : Fetched) → bad_phase ph (core ph x) ≡ false → pick (is_step1 ph) (stop_for x (state_of (core ph x))) 0 ≡ 0 → pc < counters → (m : Machine)
+    own-fine : (ph : Phase) (x : Option ℕ) → bad_phase ph (core ph x) ≡ false → pick (is_step1 ph) (stop_for x (state_of (core ph x))) 0 ≡ 0 → pc < counters → (m : Machine)
         → m.control.pipe.ix ≡ (pipe_after (step_of ph x).after (fetches ph (core ph x).control.pipe (lent (core ph x)))).ix
         → m.control.flags ≡ (step_of ph x).flags → m.control.latches.address ≡ (step_of ph x).latches.address → m.control.board ≡ n
         → m.registers ≡ (own_of ph (core ph x)).registers
@@ -292,32 +289,32 @@ module _ (n : Board) (short : n.size ≤ most_bytes) where
     unfolding own_of due stop_for
     own-fine Refill1 x b z r m i fl ad bd rg = refl
     own-fine Refill2 x b z r m i fl ad bd rg = refl
-    own-fine Step1 Blank b z r m i fl ad bd rg = refl
-    own-fine Step1 (Word w) b z r m i fl ad bd rg = go (passes (field w 28 4) f) refl z i fl ad rg
+    own-fine Step1 None b z r m i fl ad bd rg = refl
+    own-fine Step1 (Some w) b z r m i fl ad bd rg = go (passes (field w 28 4) f) refl z i fl ad rg
       where
         s : State
-        s = state_of (core Step1 (Word w))
+        s = state_of (core Step1 (Some w))
 
         o : Bool → Own
-        o t = first_due (pick t (executes (read_of w)) skipped) (core Step1 (Word w))
+        o t = first_due (pick t (executes (read_of w)) skipped) (core Step1 (Some w))
 
         go : (t : Bool) → passes (field w 28 4) f ≡ t → stop_due (pick t (executes (read_of w)) skipped) s ≡ 0
-            → m.control.pipe.ix ≡ (pipe_after (o t).step.after (fetches Step1 (core Step1 (Word w)).control.pipe (lent (core Step1 (Word w))))).ix
+            → m.control.pipe.ix ≡ (pipe_after (o t).step.after (fetches Step1 (core Step1 (Some w)).control.pipe (lent (core Step1 (Some w))))).ix
             → m.control.flags ≡ (o t).step.flags → m.control.latches.address ≡ (o t).step.latches.address
             → m.registers ≡ (o t).registers
             → bad_phase (phase_after (o t).step.after) m ≡ false
         go true ps z i fl ad rg =
-            of-ok w (o true) (o true).step.after (fetches Step1 (core Step1 (Word w)).control.pipe (lent (core Step1 (Word w)))) f m refl ps
+            of-ok w (o true) (o true).step.after (fetches Step1 (core Step1 (Some w)).control.pipe (lent (core Step1 (Some w)))) f m refl ps
             (first-ok (read_of w) s pc refl (quietly (read_of w) s z) (ahead-behind pc r)) i fl ad bd rg
         go false ps z i fl ad rg = refl
-    own-fine (Later k) Blank b z r m i fl ad bd rg = refl
-    own-fine (Later k) (Word w) b z r m i fl ad bd rg = go (passes (field w 28 4) f) refl b
+    own-fine (Later k) None b z r m i fl ad bd rg = refl
+    own-fine (Later k) (Some w) b z r m i fl ad bd rg = go (passes (field w 28 4) f) refl b
       where
-        go : (t : Bool) → passes (field w 28 4) f ≡ t → bad_step (pick t (executes (read_of w)) skipped) k (core (Later k) (Word w)) ≡ false
-            → bad_phase (phase_after (step_of (Later k) (Word w)).after) m ≡ false
+        go : (t : Bool) → passes (field w 28 4) f ≡ t → bad_step (pick t (executes (read_of w)) skipped) k (core (Later k) (Some w)) ≡ false
+            → bad_phase (phase_after (step_of (Later k) (Some w)).after) m ≡ false
         go true ps b =
-            of-ok w (own_of (Later k) (core (Later k) (Word w))) (step_of (Later k) (Word w)).after (core (Later k) (Word w)).control.pipe f m refl ps
-            (later-ok (read_of w) k g f pc l _ (to-mid (read_of w) k (core (Later k) (Word w)) b)) i fl ad bd rg
+            of-ok w (own_of (Later k) (core (Later k) (Some w))) (step_of (Later k) (Some w)).after (core (Later k) (Some w)).control.pipe f m refl ps
+            (later-ok (read_of w) k g f pc l _ (to-mid (read_of w) k (core (Later k) (Some w)) b)) i fl ad bd rg
         go false ps b = absurd (false≢true (sym b))
 
 -- ---- the counter and the counts

@@ -1,7 +1,6 @@
 -- The calls on a core: start and run.
-use Rattle.std.specs.Prelude.{ℕ, List, eqb, length, replicate}
+use Rattle.std.specs.Prelude.{ℕ, List, eqb, length, replicate, None}
 use Rattle.bits.specs.Choice.{pick}
-use Rattle.memory.specs.declared.Fetched.TheVariants.{Blank}
 use Rattle.plain.specs.Numbers.{start_answer}
 use Rattle.plain.specs.Running.{Ran, unless}
 use Rattle.steps.specs.declared.Phase.TheVariants.{Step1}
@@ -22,7 +21,7 @@ abbrev pub zeroed : Core
 zeroed =
     core (replicate 15 0) (record {
       flags = 0;
-      pipe = pipe 0 Blank Blank Blank;
+      pipe = pipe 0 None None None;
       phase = Step1;
       latches = idle;
       counts = counts 0 0;

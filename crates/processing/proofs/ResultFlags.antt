@@ -1,5 +1,6 @@
 -- The flags are those of the result.
 -- Assumes nothing.
+use Rattle.std.specs.Prelude.{Some, None}
 use Prim.Native.Nat.{ℕ, ◌/◌, ◌%◌, ◌^◌, ◌≤◌, ◌<◌}
 use mathlib.Core.Path.{◌≡◌, refl, sym, ap, ◌∙◌}
 use mathlib.Core.Bool.{Bool, true, false}
@@ -15,7 +16,6 @@ use Rattle.word.specs.declared.Processing.{Processing}
 use Rattle.datapath.specs.declared.Computed.{Computed}
 use Rattle.datapath.specs.Alu.{stores_result, operate, flags_of}
 use Rattle.datapath.proofs.Flags.{sign_of, zero_of}
-use Rattle.registers.specs.declared.Goes.TheVariants.{Next, To}
 use Rattle.registers.specs.Registers.{out, arrives}
 use Rattle.processing.specs.Processing.{operand_of, computed_of, flags_after, stored, processed}
 use Rattle.processing.specs.ResultFlags.{ResultFlags, by}
@@ -32,7 +32,7 @@ module _ (i : Processing) (g : List ℕ) (f : ℕ) (r : Computed) where
       x : ℕ
       x = flags_after i f r
 
-      go : (b d : Bool) → (pick b (pick d (out h x Next) (out g x (To r.value))) (out g x Next)).flags ≡ x
+      go : (b d : Bool) → (pick b (pick d (out h x None) (out g x (Some r.value))) (out g x None)).flags ≡ x
       go true true = refl
       go true false = refl
       go false d = refl
@@ -57,7 +57,7 @@ module _ (i : Processing) (g : List ℕ) (f : ℕ) (r : Computed) where
     zero = rw (flags-register, stored-register) (zero_of r)
 
   -- a word that is stored into the counter is the result, and Rd is 15
-  stored-counter : (word : ℕ) → (stored i g f r).goes ≡ To word → (15 ≤ i.rd) × (r.value ≡ word)
+  stored-counter : (word : ℕ) → (stored i g f r).goes ≡ Some word → (15 ≤ i.rd) × (r.value ≡ word)
   unfolding stored arrives
   stored-counter word = go (stores_result i.operation) (ltb i.rd 15) refl
     where
@@ -67,13 +67,13 @@ module _ (i : Processing) (g : List ℕ) (f : ℕ) (r : Computed) where
       x : ℕ
       x = flags_after i f r
 
-      go : (b d : Bool) → ltb i.rd 15 ≡ d → (pick b (pick d (out h x Next) (out g x (To r.value))) (out g x Next)).goes ≡ To word
+      go : (b d : Bool) → ltb i.rd 15 ≡ d → (pick b (pick d (out h x None) (out g x (Some r.value))) (out g x None)).goes ≡ Some word
           → (15 ≤ i.rd) × (r.value ≡ word)
       go true true t e = let z : ◌≡◌ {A = ℕ} 0 1 = cc in absurd (omega arith)
       go true false t e = (ltb-false i.rd 15 t, cc)
       go false d t e = let z : ◌≡◌ {A = ℕ} 0 1 = cc in absurd (omega arith)
 
-  counter : (word : ℕ) → i.s ≡ true → (stored i g f r).goes ≡ To word → word < 2 ^ 32 → (stored i g f r).flags ≡ word / 2 ^ 28
+  counter : (word : ℕ) → i.s ≡ true → (stored i g f r).goes ≡ Some word → word < 2 ^ 32 → (stored i g f r).flags ≡ word / 2 ^ 28
   unfolding flags_after field
   counter word s e h =
       let d : 15 ≤ i.rd = (stored-counter word e).0 in
@@ -85,10 +85,10 @@ made i g f pc = computed_of i g f pc (operand_of i.operand g f pc)
 
 -- an operation that stores nothing has the flags of one with the same result
 tested : (op like : ℕ) (i : Processing) (g : List ℕ) (f pc : ℕ) → stores_result op ≡ false → made (by op i) g f pc ≡ made (by like i) g f pc
-    → processed (by op i) g f pc ≡ out g (processed (by like i) g f pc).flags Next
+    → processed (by op i) g f pc ≡ out g (processed (by like i) g f pc).flags None
 unfolding processed stored flags_after
 tested op like i g f pc b e =
-    rw (b, e) (ap (λ (n : ℕ). out g n Next) (sym (flags-stored (by like i) g f (made (by like i) g f pc))))
+    rw (b, e) (ap (λ (n : ℕ). out g n None) (sym (flags-stored (by like i) g f (made (by like i) g f pc))))
 
 pub result-flags : ResultFlags
 unfolding processed computed_of operate

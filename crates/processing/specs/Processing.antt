@@ -1,5 +1,5 @@
 -- Data processing (paper 01, "Operations 0-15" and "R15 read"). pc is what R15 reads as: A+8, and A+12 with shift by register.
-use Rattle.std.specs.Prelude.{ℕ, Bool, true, false, List, ltb}
+use Rattle.std.specs.Prelude.{ℕ, Bool, true, false, List, ltb, None}
 use Rattle.bits.specs.Choice.{pick}
 use Rattle.bits.specs.Bits.{field}
 use Rattle.word.specs.declared.Operand.{Operand}
@@ -10,7 +10,6 @@ use Rattle.datapath.specs.Alu.{operate, stores_result, flags_of, carry_of, overf
 use Rattle.datapath.specs.Counter.{ahead, r15_word}
 use Rattle.datapath.specs.declared.Shifted.{Shifted}
 use Rattle.datapath.specs.declared.Computed.{Computed}
-use Rattle.registers.specs.declared.Goes.TheVariants.{Next}
 use Rattle.registers.specs.Registers.{register, Out, out, arrives}
 
 -- the operand and the shifter's carry; R15 as Rm reads as the flags with pc
@@ -39,7 +38,7 @@ flags_after i f r = pick i.s (pick (ltb i.rd 15) (flags_of r) (field r.value 28 
 
 -- TST to CMN store no result
 abbrev pub result_stored : Processing → List ℕ → ℕ → ℕ → Out
-result_stored i g f value = pick (stores_result i.operation) (arrives g f i.rd value) (out g f Next)
+result_stored i g f value = pick (stores_result i.operation) (arrives g f i.rd value) (out g f None)
 
 unfoldable pub stored : Processing → List ℕ → ℕ → Computed → Out
 stored i g f r = result_stored i g (flags_after i f r) r.value

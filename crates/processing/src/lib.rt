@@ -1,22 +1,20 @@
-// Data processing: the operand, and what an instruction leaves in the registers, the flags and the counter.
+// Data processing: the operand, and what an instruction leaves in the registers, the flags and the counter. No carry is worked out that no flag takes.
 #![tactic(auto)]
 
-ghost use Rattle.std.specs.Prelude.{◌≡◌};
+ghost use Rattle.std.specs.Prelude.{◌≡◌, Bool, ℕ};
+ghost use Rattle.datapath.specs.Alu.{operate};
 ghost use Rattle.registers.specs.Registers.{out};
-ghost use Rattle.datapath.specs.Alu.{operate, carry_of, overflow_of};
-ghost use Rattle.processing.specs.Processing.{operand_of, flags_after, result_stored, processed, by_register?};
-
-pub mod by_numbers;
+ghost use Rattle.processing.specs.Processing.{operand_of, computed_by, flags_after, result_stored, processed, reads_at, by_register?};
 
 use bits::field;
 use datapath::Shifted;
-use datapath::alu::{carry_of, made_flags, result, stores_result};
-use datapath::counter::r15_word;
+use datapath::alu::{carry_of, made_flags, makes_carry, result, stores_result};
+use datapath::counter::{ahead, r15_word};
 use datapath::shifter::{by_amount, by_register, constant};
-use registers::{Goes, Outcome, arrive, register};
+use registers::{Outcome, arrive, register};
 use word::{Operand, Processing};
 
-// An operand's value alone, and what R15 reads as beside it.
+// An operand's value, and what R15 reads as beside it.
 #[derive(Clone, Copy)]
 pub struct Taken {
     pub value: u32,
@@ -24,6 +22,7 @@ pub struct Taken {
 }
 
 // The operand and the shifter's carry, with what R15 reads as in `pc`.
+#[inline(always)]
 fn operand(o: Operand, registers: &[u32; 15], flags: u32, pc: u32) -> Shifted
     ensures { result ≡ operand_of o registers.now flags pc }
 {
@@ -41,14 +40,64 @@ fn operand(o: Operand, registers: &[u32; 15], flags: u32, pc: u32) -> Shifted
     }
 }
 
+pub fn shifts_by_register(o: Operand) -> bool
+    ensures { result ≡ by_register? o }
+{
+    matches!(o, Operand::ShiftByRegister { .. })
+}
+
+#[inline(always)]
+fn take(o: Operand, registers: &[u32; 15], flags: u32, pc: u32) -> Taken
+    ensures { (result.pc ≡ pc) × (result.value ≡ (operand_of o registers.now flags pc).value) }
+{
+    Taken {
+        value: operand(o, registers, flags, pc).value,
+        pc,
+    }
+}
+
+// The operand of an instruction at `a`. It is matched once, for its value and for what R15 reads as.
+#[inline(always)]
+pub fn operand_at(i: Processing, registers: &[u32; 15], flags: u32, a: u32) -> Taken
+    ensures { (result.pc ≡ reads_at i a) × (result.value ≡ (operand_of i.operand registers.now flags (reads_at i a)).value) }
+{
+    let o = i.operand;
+    match o {
+        Operand::Constant { .. } | Operand::ShiftByAmount { .. } => {
+            take(o, registers, flags, ahead(a, 8))
+        }
+        Operand::ShiftByRegister { .. } => take(o, registers, flags, ahead(a, 12)),
+    }
+}
+
+// The shifter's carry, or any where the operation makes C itself.
+#[inline(always)]
+fn shifter_carry(i: Processing, registers: &[u32; 15], flags: u32, pc: u32) -> bool
+    ensures { (a b : ℕ) (c v : Bool) → operate i.operation a b result c v ≡ operate i.operation a b (operand_of i.operand registers.now flags pc).carry c v }
+{
+    if makes_carry(i.operation) {
+        return false;
+    }
+    operand(i.operand, registers, flags, pc).carry
+}
+
 // With S the flags come from the result: for R15 from its bits 31..28.
-fn flags_after(i: Processing, flags: u32, rn: u32, b: Shifted, value: u32) -> u32
-    requires { value ≡ (operate i.operation rn b.value b.carry (carry_of flags) (overflow_of flags)).value }
-    ensures { result ≡ flags_after i flags (operate i.operation rn b.value b.carry (carry_of flags) (overflow_of flags)) }
+#[inline(always)]
+fn flags_after(
+    i: Processing,
+    registers: &[u32; 15],
+    flags: u32,
+    t: Taken,
+    rn: u32,
+    value: u32,
+) -> u32
+    requires { value ≡ (computed_by i registers.now flags t.pc rn t.value).value }
+    ensures { result ≡ flags_after i flags (computed_by i registers.now flags t.pc rn t.value) }
 {
     if i.s {
         if i.rd < 15 {
-            made_flags(i.operation, rn, b.value, b.carry, flags)
+            let carry = shifter_carry(i, registers, flags, t.pc);
+            made_flags(i.operation, rn, t.value, carry, flags)
         } else {
             field(value, 28, 4)
         }
@@ -58,37 +107,33 @@ fn flags_after(i: Processing, flags: u32, rn: u32, b: Shifted, value: u32) -> u3
 }
 
 // TST to CMN store no result.
+#[inline(always)]
 fn store_result(i: Processing, registers: &mut [u32; 15], flags: u32, value: u32) -> Outcome
     ensures { out registers.new result.flags result.goes ≡ result_stored i registers.old flags value }
 {
     if stores_result(i.operation) {
         arrive(registers, flags, i.rd, value)
     } else {
-        Outcome {
-            flags,
-            goes: Goes::Next,
-        }
+        Outcome { flags, goes: None }
     }
 }
 
-// An instruction in its last own step, with the shifter's carry made beside the operand's value.
-pub fn process(i: Processing, registers: &mut [u32; 15], flags: u32, pc: u32) -> Outcome
-    ensures { out registers.new result.flags result.goes ≡ processed i registers.old flags pc }
+// An instruction whose operand is taken.
+#[inline(always)]
+pub fn process_taken(i: Processing, t: Taken, registers: &mut [u32; 15], flags: u32) -> Outcome
+    requires { t.value ≡ (operand_of i.operand registers.old flags t.pc).value }
+    ensures { out registers.new result.flags result.goes ≡ processed i registers.old flags t.pc }
 {
-    let o = i.operand;
-    let b = operand(o, registers, flags, pc);
-    let rn = register(registers, i.rn, pc);
-    let value = result(i.operation, rn, b.value, carry_of(flags));
-    let f = flags_after(i, flags, rn, b, value);
+    let rn = register(registers, i.rn, t.pc);
+    let value = result(i.operation, rn, t.value, carry_of(flags));
+    let f = flags_after(i, registers, flags, t, rn, value);
     store_result(i, registers, f, value)
 }
 
-pub fn shifts_by_register(o: Operand) -> bool
-    ensures { result ≡ by_register? o }
+// An instruction in its last own step.
+pub fn process(i: Processing, registers: &mut [u32; 15], flags: u32, pc: u32) -> Outcome
+    ensures { out registers.new result.flags result.goes ≡ processed i registers.old flags pc }
 {
-    match o {
-        Operand::Constant { .. } => false,
-        Operand::ShiftByAmount { .. } => false,
-        Operand::ShiftByRegister { .. } => true,
-    }
+    let t = take(i.operand, registers, flags, pc);
+    process_taken(i, t, registers, flags)
 }

@@ -1,7 +1,5 @@
 -- Tables of records: which are bad (11), and what a run refuses with first.
-use Rattle.std.specs.Prelude.{ℕ, ◌+◌, ◌*◌, ◌≡◌, true, false, List, [], ◌∷◌, map}
-use Rattle.memory.specs.declared.Fetched.{Fetched}
-use Rattle.memory.specs.declared.Fetched.TheVariants.{Word, Blank}
+use Rattle.std.specs.Prelude.{ℕ, ◌+◌, ◌*◌, ◌≡◌, true, false, List, [], ◌∷◌, map, Option, Some, None}
 use Rattle.steps.specs.declared.Phase.{Phase}
 use Rattle.steps.specs.declared.Phase.TheVariants.{Step1, Refill1, Refill2, Later}
 use Rattle.steps.specs.Steps.{latches, idle}
@@ -21,7 +19,7 @@ Tells c bads goods =
 abbrev pub standing : ℕ → ℕ → ℕ → ℕ → ℕ → ℕ → Control
 standing n pc f cycles retired stop = record {
   flags = f;
-  pipe = pipe pc Blank Blank Blank;
+  pipe = pipe pc None None None;
   phase = Step1;
   latches = idle;
   counts = counts cycles retired;
@@ -30,10 +28,10 @@ standing n pc f cycles retired stop = record {
 }
 
 -- with a word under way, in memory of 16 bytes: IX, phase, address latch, stop
-abbrev pub under : Fetched → Phase → ℕ → ℕ → Control
+abbrev pub under : Option ℕ → Phase → ℕ → ℕ → Control
 under ix ph address stop = record {
   flags = 0;
-  pipe = pipe 12 Blank Blank ix;
+  pipe = pipe 12 None None ix;
   phase = ph;
   latches = latches address 0 0;
   counts = counts 9 1;
@@ -42,23 +40,23 @@ under ix ph address stop = record {
 }
 
 -- words with later steps: a shift by register, a load, a store, blocks of R1, R2 and R8, and MUL R10, R3 by R0, R2 and R5, which hold 0, 3 and 40
-abbrev pub shift : Fetched
-shift = Word 0xE1A01312
+abbrev pub shift : Option ℕ
+shift = Some 0xE1A01312
 
-abbrev pub load : Fetched
-load = Word 0xE5954000
+abbrev pub load : Option ℕ
+load = Some 0xE5954000
 
-abbrev pub store : Fetched
-store = Word 0xE5854000
+abbrev pub store : Option ℕ
+store = Some 0xE5854000
 
-abbrev pub block_load : Fetched
-block_load = Word 0xE8970106
+abbrev pub block_load : Option ℕ
+block_load = Some 0xE8970106
 
-abbrev pub block_store : Fetched
-block_store = Word 0xE8870106
+abbrev pub block_store : Option ℕ
+block_store = Some 0xE8870106
 
-abbrev pub multiply_by : ℕ → Fetched
-multiply_by rs = Word (0xE00A0093 + 256 * rs)
+abbrev pub multiply_by : ℕ → Option ℕ
+multiply_by rs = Some (0xE00A0093 + 256 * rs)
 
 -- the clauses of 11; an Other has one step, so that one that meets 22 in step 2 lacks that step too
 pub record BadRecords : Type 0 where
@@ -80,11 +78,11 @@ pub record BadRecords : Type 0 where
   -- step 2 where IX is blank, meets 22, meets 23 (Rs = 15; a byte with Rd = 15; block with S; multiply by R15), or fails its condition; refills aren't
   -- steps
   pub word :
-      Tells (λ ix. under ix (Later 0) 0 0) (Blank ∷ Word 0xEF000000 ∷ Word 0xE1A01F12 ∷ Word 0xE5D5F000 ∷ Word 0xE8D70106 ∷ multiply_by 15 ∷ Word 0x01A01312 ∷ [])
+      Tells (λ ix. under ix (Later 0) 0 0) (None ∷ Some 0xEF000000 ∷ Some 0xE1A01F12 ∷ Some 0xE5D5F000 ∷ Some 0xE8D70106 ∷ multiply_by 15 ∷ Some 0x01A01312 ∷ [])
       (shift ∷ load ∷ store ∷ block_load ∷ block_store ∷ multiply_by 0 ∷ [])
-  pub refill : Tells (λ ix. under ix Refill1 0 0) [] (Blank ∷ Word 0xEF000000 ∷ [])
+  pub refill : Tells (λ ix. under ix Refill1 0 0) [] (None ∷ Some 0xEF000000 ∷ [])
   -- or lacks that step
-  pub one_step : Tells (λ ix. under ix (Later 0) 0 0) (Word 0xE1A01002 ∷ Word 0xEA000000 ∷ []) []
+  pub one_step : Tells (λ ix. under ix (Later 0) 0 0) (Some 0xE1A01002 ∷ Some 0xEA000000 ∷ []) []
   pub shift_steps : Tells (λ k. under shift (Later k) 0 0) (1 ∷ []) (0 ∷ [])
   pub load_steps : Tells (λ k. under load (Later k) 0 0) (2 ∷ []) (0 ∷ 1 ∷ [])
   pub store_steps : Tells (λ k. under store (Later k) 0 0) (1 ∷ []) (0 ∷ [])

@@ -9,7 +9,6 @@ use crate::under_way::bad_word;
 use bits::field;
 use condition::passes;
 use cycle::Control;
-use memory::Fetched;
 use plain::numbers::{budget_is_bad, flags_are_bad, is_counter, is_stop, length_is_bad};
 use plain::refused::{BUDGET_REFUSED, OTHER_MEMORY, RECORD_REFUSED, TOO_MANY_CYCLES};
 use steps::Phase;
@@ -21,14 +20,14 @@ fn bad_step(k: u32, c: Control, registers: &[u32; 15]) -> bool
     let pipe = c.pipe;
     let ix = pipe.ix;
     match ix {
-        Fetched::Word(word) => {
+        Some(word) => {
             if passes(field(word, 28, 4), c.flags) {
                 bad_word(word, k, c, registers)
             } else {
                 true
             }
         }
-        Fetched::Blank => true,
+        None => true,
     }
 }
 

@@ -12,7 +12,7 @@ use semantics::own_steps::{block_steps, multiply_steps, processing_steps, single
 use stops::rules::{block_rule, multiply_rule, processing_rule, single_rule};
 use stops::span::outside;
 use transfer::named::count;
-use word::{Block, Multiply, Processing, Single, reader};
+use word::{Block, Instruction, Multiply, Processing, Single, reader};
 
 // Of so many own steps, step k + 2 is one.
 fn has_step(steps: u32, k: u32) -> bool
@@ -64,17 +64,12 @@ fn bad_multiply(i: Multiply, k: u32, c: Control, registers: &[u32; 15]) -> bool
 pub fn bad_word(word: u32, k: u32, c: Control, registers: &[u32; 15]) -> bool
     ensures { (mem : List ℕ) → result ≡ bad_within (read_of word) k (machine registers.now c mem) }
 {
-    match reader::kind(word) {
-        0 => bad_processing(
-            reader::processing(word, reader::processing_operand(word)),
-            k,
-            c,
-            registers,
-        ),
-        1 => bad_single(reader::single(word, reader::single_offset(word)), k, c),
-        2 => bad_block(reader::block(word), k, c),
-        3 => true,
-        4 => bad_multiply(reader::multiply(word), k, c, registers),
-        _ => true,
+    match reader::read(word) {
+        Instruction::Processing(i) => bad_processing(i, k, c, registers),
+        Instruction::Single(i) => bad_single(i, k, c),
+        Instruction::Block(i) => bad_block(i, k, c),
+        Instruction::Branch(_) => true,
+        Instruction::Multiply(i) => bad_multiply(i, k, c, registers),
+        Instruction::Other(_) => true,
     }
 }

@@ -1,8 +1,6 @@
 -- The fifteen registers R0 to R14, and what an instruction leaves in them. R15 is no register here: what it reads as is lent.
-use Rattle.std.specs.Prelude.{ℕ, List, ltb, get_or, set}
+use Rattle.std.specs.Prelude.{ℕ, List, ltb, get_or, set, Option, Some, None}
 use Rattle.bits.specs.Choice.{pick}
-use Rattle.registers.specs.declared.Goes.{Goes}
-use Rattle.registers.specs.declared.Goes.TheVariants.{Next, To}
 
 -- register n, or r15 for 15
 unfoldable pub register : List ℕ → ℕ → ℕ → ℕ
@@ -16,11 +14,11 @@ put g n v = pick (ltb n 15) (set g n v) g
 pub record Out : Type 0 where
   pub registers : List ℕ
   pub flags : ℕ
-  pub goes : Goes
+  pub goes : Option ℕ
 
-abbrev pub out : List ℕ → ℕ → Goes → Out
+abbrev pub out : List ℕ → ℕ → Option ℕ → Out
 out g f t = record { registers = g; flags = f; goes = t }
 
 -- a result or a loaded word that goes to register n: for 15 it is stored into the counter
 unfoldable pub arrives : List ℕ → ℕ → ℕ → ℕ → Out
-arrives g f n v = pick (ltb n 15) (out (set g n v) f Next) (out g f (To v))
+arrives g f n v = pick (ltb n 15) (out (set g n v) f None) (out g f (Some v))

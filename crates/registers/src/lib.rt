@@ -4,18 +4,11 @@
 ghost use Rattle.std.specs.Prelude.{◌≡◌};
 ghost use Rattle.registers.specs.Registers.{register, put, out, arrives};
 
-// Where the counter goes after an instruction: on, or to bits 25..2 of a stored word.
-#[derive(Clone, Copy)]
-pub enum Goes {
-    Next,
-    To(u32),
-}
-
-// What an instruction leaves beside the registers.
+// What an instruction leaves beside the registers. The counter goes to bits 25..2 of a stored word, or on where none is stored.
 #[derive(Clone, Copy)]
 pub struct Outcome {
     pub flags: u32,
-    pub goes: Goes,
+    pub goes: Option<u32>,
 }
 
 pub fn register(registers: &[u32; 15], n: u32, r15: u32) -> u32
@@ -38,14 +31,11 @@ pub fn arrive(registers: &mut [u32; 15], flags: u32, n: u32, value: u32) -> Outc
 {
     if n < 15 {
         registers[n as usize] = value;
-        Outcome {
-            flags,
-            goes: Goes::Next,
-        }
+        Outcome { flags, goes: None }
     } else {
         Outcome {
             flags,
-            goes: Goes::To(value),
+            goes: Some(value),
         }
     }
 }

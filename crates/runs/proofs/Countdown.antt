@@ -1,5 +1,6 @@
 -- The cycles left: each cycle away from a boundary takes one of them, and at a boundary there are none.
 -- Assumes nothing.
+use Rattle.std.specs.Prelude.{Option, ℕ, Some, None}
 use Prim.Native.Nat.{ℕ, zero, suc, ◌+◌, ◌-◌, ◌≤◌, ◌<◌}
 use mathlib.Core.Path.{◌≡◌, refl, sym, ap, ◌∙◌}
 use mathlib.Core.List.{List, [], ◌∷◌}
@@ -20,10 +21,6 @@ use Rattle.word.specs.declared.Instruction.{Instruction}
 use Rattle.word.specs.Reader.{read_of}
 use Rattle.memory.specs.Memory.{Memory}
 use Rattle.memory.specs.declared.Board.{Board}
-use Rattle.memory.specs.declared.Fetched.{Fetched}
-use Rattle.memory.specs.declared.Fetched.TheVariants.{Word, Blank}
-use Rattle.registers.specs.declared.Goes.{Goes}
-use Rattle.registers.specs.declared.Goes.TheVariants.{Next, To}
 use Rattle.registers.specs.Registers.{arrives}
 use Rattle.processing.specs.Processing.{processed, by_register?}
 use Rattle.multiply.specs.Multiply.{rs_of, multiplied}
@@ -63,9 +60,9 @@ unfolding duration_of
 lasts i g = rw (own-steps i g)
 
 -- the last own step
-last_less : (i : Instruction) (k : ℕ) (g : List ℕ) (o : Own) (e : Goes) → extra i g ≡ suc k → refills e ≡ pick (stores_counter i) 2 0 → Less i k g o (ends e)
-last_less i k g o Next x r = omega (arith, lasts i g)
-last_less i k g o (To w) x r = omega (arith, lasts i g)
+last_less : (i : Instruction) (k : ℕ) (g : List ℕ) (o : Own) (e : Option ℕ) → extra i g ≡ suc k → refills e ≡ pick (stores_counter i) 2 0 → Less i k g o (ends e)
+last_less i k g o None x r = omega (arith, lasts i g)
+last_less i k g o (Some w) x r = omega (arith, lasts i g)
 
 -- a list that is nothing but what was dropped
 drop-none : (l : List ℕ) (k : ℕ) → drop k l ≡ [] → length l ≤ k
@@ -103,7 +100,7 @@ single-load-less i e (suc k) g f l mem h =
 single-store-less : (i : Single) → i.l ≡ false → (k : ℕ) (g : List ℕ) (f : ℕ) (l : Latches) (mem : Memory) → k < extra (Instruction.Single i) g
     → LessOwn (Instruction.Single i) k g (store_later i g f l mem)
 unfolding store_later stores_counter
-single-store-less i e k g f l mem h = last_less (Instruction.Single i) k g (store_later i g f l mem) Next (rw e (let h₂ = rw e at h in omega arith)) (rw e)
+single-store-less i e k g f l mem h = last_less (Instruction.Single i) k g (store_later i g f l mem) None (rw e (let h₂ = rw e at h in omega arith)) (rw e)
 
 load-less : (i : Block) → i.l ≡ true → (k : ℕ) (g : List ℕ) (f : ℕ) (l : Latches) (mem : Memory) → k < block.count i
     → (r : List ℕ) → drop k (block.named i.list) ≡ r → LessOwn (Instruction.Block i) (suc k) g (load_step k r g f l mem)
@@ -126,7 +123,7 @@ unfolding store_step own_steps stores_counter
 store-less i e k g g' f pc l mem h [] d = absurd (omega (arith, drop-none (block.named i.list) k d))
 store-less i e k g g' f pc l mem h (x ∷ []) d =
     let c = drop-count (block.named i.list) k x [] d in
-    last_less (Instruction.Block i) k g (store_step k (x ∷ []) g' f pc l mem) Next (rw e (omega (arith, c))) (rw e)
+    last_less (Instruction.Block i) k g (store_step k (x ∷ []) g' f pc l mem) None (rw e (omega (arith, c))) (rw e)
 store-less i e k g g' f pc l mem h (x ∷ (y ∷ ys)) d = (refl, refl)
 
 block-store-less : (i : Block) → i.l ≡ false → (k : ℕ) (g : List ℕ) (f pc : ℕ) (l : Latches) (mem : Memory) → k < extra (Instruction.Block i) g
@@ -143,7 +140,7 @@ multiply-less i k g f mem h = go (ltb (suc k) (m_of (rs_of i g))) refl
     go true e = (refl, refl)
     go false e =
         let m : m_of (rs_of i g) ≤ suc k = ltb-false _ _ e in
-        unfold multiplied in last_less (Instruction.Multiply i) k g (last (multiplied i g f) mem) Next (omega arith) (unfold stores_counter in refl)
+        unfold multiplied in last_less (Instruction.Multiply i) k g (last (multiplied i g f) mem) None (omega arith) (unfold stores_counter in refl)
 
 later-less : (i : Instruction) (k : ℕ) (g : List ℕ) (f pc : ℕ) (l : Latches) (mem : Memory) → k < extra i g → LessOwn i k g (later_step i k g f pc l mem)
 unfolding later_step
@@ -165,7 +162,7 @@ later-less (Instruction.Other w) k g f pc l mem h = absurd (omega arith)
 -- ---- of the core
 
 -- the cycles left after such a step
-left_after : (w k : ℕ) (g : List ℕ) (o : Own) (e : After) (p : Pipe) → k < extra (read_of w) g → p.ix ≡ Word w → Less (read_of w) k g o e
+left_after : (w k : ℕ) (g : List ℕ) (o : Own) (e : After) (p : Pipe) → k < extra (read_of w) g → p.ix ≡ Some w → Less (read_of w) k g o e
     → duration_of (read_of w) g - suc k ≡ suc (left_in (phase_after e) (pipe_after e p).ix o.registers)
 left_after w k g o (More Step1) p h x z = absurd z
 left_after w k g o (More Refill1) p h x z = absurd z
@@ -175,18 +172,18 @@ left_after w k g o (Done e) p h x z = omega arith
 left_after w k g o (Jump v) p h x z = omega arith
 
 -- of a core in its parts
-module _ (g : List ℕ) (f pc : ℕ) (ir1 ir2 : Fetched) (l : Latches) (cs : Counts) (q : ℕ) (b : Board) (mem : List ℕ) where
-  abbrev core : Phase → Fetched → Machine
+module _ (g : List ℕ) (f pc : ℕ) (ir1 ir2 : Option ℕ) (l : Latches) (cs : Counts) (q : ℕ) (b : Board) (mem : List ℕ) where
+  abbrev core : Phase → Option ℕ → Machine
   core ph x = machine g (record { flags = f; pipe = pipe pc ir1 ir2 x; phase = ph; latches = l; counts = cs; stop = q; board = b }) mem
 
-  core-less : (ph : Phase) (x : Fetched) → ph ≢ Step1 → InStep ph x g → cycles_left (core ph x) ≡ suc (cycles_left (cycle (core ph x)))
+  core-less : (ph : Phase) (x : Option ℕ) → ph ≢ Step1 → InStep ph x g → cycles_left (core ph x) ≡ suc (cycles_left (cycle (core ph x)))
   unfolding cycles_left cycle own_of
   core-less Step1 x s z = absurd (s refl)
   core-less Refill1 x s z = refl
   core-less Refill2 x s z = refl
-  core-less (Later k) Blank s z = absurd z
-  core-less (Later k) (Word w) s z =
-      let m = core (Later k) (Word w) in
+  core-less (Later k) None s z = absurd z
+  core-less (Later k) (Some w) s z =
+      let m = core (Later k) (Some w) in
       let h : k < extra (read_of w) g = omega (arith, own-steps (read_of w) g) in
       let o = later_step (read_of w) k g f pc l (lent m) in
       left_after w k g o o.step.after m.control.pipe h refl (later-less (read_of w) k g f pc l (lent m) h)

@@ -1,19 +1,18 @@
 -- What the functions of `left` join.
 -- Assumes nothing.
+use Rattle.std.specs.Prelude.{Option, ℕ, Some}
 use Prim.Native.Nat.{ℕ, suc, ◌-◌, ◌≤◌, ◌<◌}
 use mathlib.Core.Path.{◌≡◌, sym, ap, ◌∙◌}
 use mathlib.Core.List.{List}
 use native.Mathlib.Omega.{arith}
 use Rattle.word.specs.Reader.{read_of}
-use Rattle.memory.specs.declared.Fetched.{Fetched}
-use Rattle.memory.specs.declared.Fetched.TheVariants.{Word}
 use Rattle.semantics.specs.Duration.{duration_of}
 use Rattle.steps.specs.declared.Phase.{Phase}
 use Rattle.cycle.specs.Machine.{Machine}
 use Rattle.runs.specs.CyclesLeft.{rest, left_in, cycles_left}
 
 -- some of the duration is left, or none
-module _ (k : ℕ) (g : List ℕ) {ix : Fetched} {w d : ℕ} (i : ix ≡ Word w) (e : d ≡ duration_of (read_of w) g) where
+module _ (k : ℕ) (g : List ℕ) {ix : Option ℕ} {w d : ℕ} (i : ix ≡ Some w) (e : d ≡ duration_of (read_of w) g) where
   pub some_left : k < d → d - k - 1 ≡ rest ix (suc k) g
   some_left h = rw i (omega arith)
 

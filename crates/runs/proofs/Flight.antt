@@ -1,5 +1,6 @@
 -- A flight: the cycles from inside an instruction to the next boundary, and what holds of the core on the way.
 -- Assumes nothing.
+use Rattle.std.specs.Prelude.{Option, ℕ, Some, None}
 use Prim.Native.Nat.{ℕ, zero, suc, ◌+◌}
 use mathlib.Core.Path.{◌≡◌, refl, sym, ap, ◌∙◌}
 use mathlib.Core.List.{List}
@@ -11,10 +12,6 @@ use Rattle.datapath.proofs.Counters.{ahead-ahead}
 use Rattle.memory.specs.declared.Board.{Board}
 use Rattle.memory.specs.Memory.{Memory, word_at}
 use Rattle.registers.specs.State.{State, state}
-use Rattle.memory.specs.declared.Fetched.{Fetched}
-use Rattle.memory.specs.declared.Fetched.TheVariants.{Word}
-use Rattle.registers.specs.declared.Goes.{Goes}
-use Rattle.registers.specs.declared.Goes.TheVariants.{Next, To}
 use Rattle.semantics.specs.Duration.{own_steps, refills, next_address}
 use Rattle.plain.specs.Machine as plain
 use Rattle.steps.specs.declared.Phase.{Phase}
@@ -54,7 +51,7 @@ more zero m = m
 more (suc n) m = suc (more n m)
 
 -- the pipe of the instruction in IX at a after its step 1
-abbrev pub in_flight : ℕ → Memory → Fetched → Pipe
+abbrev pub in_flight : ℕ → Memory → Option ℕ → Pipe
 in_flight a mem ix = pipe (ahead a 12) (word_at mem (ahead a 8)) (word_at mem (ahead a 4)) ix
 
 abbrev pub on_board : List ℕ → ℕ → Pipe → Phase → Latches → Counts → Board → List ℕ → Machine
@@ -77,13 +74,13 @@ pub turn44 : (a : ℕ) → ahead (ahead a 4) 4 ≡ ahead a 8
 turn44 a = ahead-ahead a 4 4
 
 -- the end of an instruction's own steps, and the refills after it
-pub land : (g : List ℕ) (f : ℕ) (e : Goes) (w a k t u : ℕ) (mem : Memory) → 2 + own_steps (read_of w) g ≡ u
+pub land : (g : List ℕ) (f : ℕ) (e : Option ℕ) (w a k t u : ℕ) (mem : Memory) → 2 + own_steps (read_of w) g ≡ u
     → Flight k u (refills e)
-    (at g f (pipe_after (ends e) (in_flight a mem (Word w))) (phase_after (ends e)) idle (counts_after (ends e) (counts t k)) mem)
+    (at g f (pipe_after (ends e) (in_flight a mem (Some w))) (phase_after (ends e)) idle (counts_after (ends e) (counts t k)) mem)
     (boundary (plain_at (state g f (next_address a e) mem)) (suc k) (climb (refills e) (suc t)))
 unfolding cycle own_of boundary lead
-land g f Next w a k t u mem s = rw (turn48 a, sym (turn44 a))
-land g f (To x) w a k t u mem s = (
+land g f None w a k t u mem s = rw (turn48 a, sym (turn44 a))
+land g f (Some x) w a k t u mem s = (
   record { off = refl; retired = refl; beyond = s },
   (record { off = refl; retired = refl; beyond = ap suc s }, rw (turn44 (counter x))),
 )
@@ -94,14 +91,14 @@ Keeps a mem new = (word_at mem (ahead a 4) ≡ word_at new (ahead a 4)) × (word
 
 -- the end of a store
 pub land-stored : (g : List ℕ) (f w a k t : ℕ) (mem new : Memory) → Keeps a mem new
-    → at g f (pipe_after (Done Executed) (in_flight a mem (Word w))) Step1 idle (counts t (suc k)) new ≡ boundary (plain_at (state g f (ahead a 4) new)) (suc k) t
+    → at g f (pipe_after (Done Executed) (in_flight a mem (Some w))) Step1 idle (counts t (suc k)) new ≡ boundary (plain_at (state g f (ahead a 4) new)) (suc k) t
 unfolding boundary
 land-stored g f w a k t mem new h = rw (h.0, h.1, turn48 a, sym (turn44 a))
 
 -- the same, where the board is known to be the old one
 pub land-on : (g : List ℕ) (f w a k t : ℕ) (mem new : Memory) → new.board ≡ mem.board → Keeps a mem new
-    → on_board g f (pipe_after (Done Executed) (in_flight a mem (Word w))) Step1 idle (counts t (suc k)) mem.board new.bytes
+    → on_board g f (pipe_after (Done Executed) (in_flight a mem (Some w))) Step1 idle (counts t (suc k)) mem.board new.bytes
     ≡ boundary (plain_at (state g f (ahead a 4) new)) (suc k) t
 land-on g f w a k t mem new b h =
-    ap (λ (x : Board). on_board g f (pipe_after (Done Executed) (in_flight a mem (Word w))) Step1 idle (counts t (suc k)) x new.bytes) (sym b)
+    ap (λ (x : Board). on_board g f (pipe_after (Done Executed) (in_flight a mem (Some w))) Step1 idle (counts t (suc k)) x new.bytes) (sym b)
     ∙ land-stored g f w a k t mem new h

@@ -1,5 +1,6 @@
 -- The instruction lemma: from a boundary, the cycles of an instruction come to the next boundary.
 -- Assumes nothing.
+use Rattle.std.specs.Prelude.{Option, ℕ, Some, None}
 use Prim.Native.Nat.{ℕ, zero, suc, ◌+◌, ◌-◌, ◌*◌, ◌^◌, ◌≤◌, ◌<◌}
 use mathlib.Core.Path.{◌≡◌, refl, sym, ap, ◌∙◌}
 use mathlib.Core.List.{List, [], ◌∷◌}
@@ -22,9 +23,6 @@ use Rattle.condition.specs.Condition.{passes}
 use Rattle.datapath.specs.Counter.{ahead, counters}
 use Rattle.memory.specs.declared.Board.{Board}
 use Rattle.memory.specs.Memory.{Memory, limit, word_at, read_word, write_word}
-use Rattle.memory.specs.declared.Fetched.{Fetched}
-use Rattle.memory.specs.declared.Fetched.TheVariants.{Word, Blank}
-use Rattle.registers.specs.declared.Goes.TheVariants.{Next}
 use Rattle.registers.specs.State.{State, state}
 use Rattle.registers.specs.Registers.{out, put, arrives}
 use Rattle.processing.specs.Processing.{processed, by_register?}
@@ -55,7 +53,7 @@ use Rattle.runs.proofs.FetchedAhead.{single-kept, stores-all-kept}
 use Rattle.runs.proofs.Flight.{Flight, climb, more, in_flight, at, plain_at, turn12, land, Keeps, land-stored, land-on}
 
 -- a core about to do step 1 of x at a
-abbrev pub begin : Fetched → State → ℕ → ℕ → Machine
+abbrev pub begin : Option ℕ → State → ℕ → ℕ → Machine
 begin x s k t = at s.registers s.status (pipe (ahead s.a 8) (word_at s.memory (ahead s.a 4)) x x) Step1 idle (counts t k) s.memory
 
 -- the steps after the first, by the registers before it
@@ -93,15 +91,15 @@ abbrev pub leaves : State → Effect → State
 leaves s e = state e.out.registers e.out.flags (next_address s.a e.out.goes) e.memory
 
 -- a flight after step 1 of x: j more steps, to what e leaves
-abbrev pub FliesTo : Fetched → State → ℕ → ℕ → ℕ → Effect → Type 0
+abbrev pub FliesTo : Option ℕ → State → ℕ → ℕ → ℕ → Effect → Type 0
 FliesTo x s k t j e =
     Flight k 3 (more j (refills e.out.goes)) (cycle (begin x s k t))
     (boundary (plain_at (leaves s e)) (suc k) (climb (more j (refills e.out.goes)) (suc t)))
 
 skips-on : (w : ℕ) (s : State) (k t : ℕ) → passes (field w 28 4) s.status ≡ false
-    → cycle (begin (Word w) s k t) ≡ boundary (plain_at (state s.registers s.status (ahead s.a 4) s.memory)) (suc k) (suc t)
+    → cycle (begin (Some w) s k t) ≡ boundary (plain_at (state s.registers s.status (ahead s.a 4) s.memory)) (suc k) (suc t)
 unfolding cycle own_of due
-skips-on w s k t p = rw (p, turn12 s.a) (land s.registers s.status Next w s.a k t _ s.memory refl)
+skips-on w s k t p = rw (p, turn12 s.a) (land s.registers s.status None w s.a k t _ s.memory refl)
 
 pub drop-next : (l : List ℕ) (i : ℕ) {x : ℕ} {xs : List ℕ} → drop i l ≡ x ∷ xs → drop (suc i) l ≡ xs
 drop-next [] zero d = cc
@@ -206,7 +204,7 @@ module _ (w : ℕ) (s : State) (k t : ℕ) (ps : passes (field w 28 4) s.status 
 
   -- the flight after step 1 of an instruction
   abbrev Flies : Instruction → Type 0
-  Flies i = FliesTo (Word w) s k t (extra i g) (effect_of i s)
+  Flies i = FliesTo (Some w) s k t (extra i g) (effect_of i s)
 
   -- the steps that the word has, in any registers
   steps : {i : Instruction} (h : List ℕ) → read_of w ≡ i → 2 + own_steps (read_of w) h ≡ 3 + extra i h
@@ -238,7 +236,7 @@ module _ (w : ℕ) (s : State) (k t : ℕ) (ps : passes (field w 28 4) s.status 
   -- a multiply under way, v cycles after the last boundary's durations: j steps are done after the first, and j' are to follow
   multiplying : (i : Multiply) → read_of w ≡ Instruction.Multiply i → (j' j u v : ℕ) → m_of (rs_of i g) ≡ suc (j + j') → v ≡ 3 + j
       → Flight k v (more (suc j') 0)
-      (at g f (in_flight a mem (Word w)) (Later j) idle (counts u k) mem)
+      (at g f (in_flight a mem (Some w)) (Later j) idle (counts u k) mem)
       (boundary (plain_at (leaves s (effect (multiplied i g f) mem))) (suc k) (climb (more (suc j') 0) u))
   unfolding cycle own_of due later_step multiply_later multiplied lead
   multiplying i e zero j u v m c = (
@@ -254,11 +252,11 @@ module _ (w : ℕ) (s : State) (k t : ℕ) (ps : passes (field w 28 4) s.status 
   unfolding cycle own_of due first_step effect_of multiplied
   multiply i e = go (m_of (rs_of i g)) refl
     where
-      go : (m : ℕ) → m_of (rs_of i g) ≡ m → FliesTo (Word w) s k t m (effect_of (Instruction.Multiply i) s)
+      go : (m : ℕ) → m_of (rs_of i g) ≡ m → FliesTo (Some w) s k t m (effect_of (Instruction.Multiply i) s)
       go zero z = absurd (omega (arith, m-bounds (rs_of i g)))
       go (suc j) z = rw (ps, e, turn12 a) (multiplying i e j 0 (suc t) 3 (z ∙ omega arith) refl)
 
-  load : (i : Single) → read_of w ≡ Instruction.Single i → i.l ≡ true → FliesTo (Word w) s k t 2 (load_effect i s)
+  load : (i : Single) → read_of w ≡ Instruction.Single i → i.l ≡ true → FliesTo (Some w) s k t 2 (load_effect i s)
   unfolding cycle own_of due load_later load_effect lead
   load i e l =
       let o = arrives (single.with_base i g (single.changed_base i g f (ahead a 8))) f i.rd (single.loaded_value i mem (single.address_of i g f (ahead a 8))) in
@@ -272,7 +270,7 @@ module _ (w : ℕ) (s : State) (k t : ℕ) (ps : passes (field w 28 4) s.status 
       )
 
   store : (i : Single) → read_of w ≡ Instruction.Single i → i.l ≡ false → Keeps a mem (store_effect i s).memory
-      → FliesTo (Word w) s k t 1 (store_effect i s)
+      → FliesTo (Some w) s k t 1 (store_effect i s)
   unfolding cycle own_of due store_later store_effect lead
   store i e l h =
       rw (ps, e, store-first i g f (ahead a 8) mem l, turn12 a) (
@@ -284,7 +282,7 @@ module _ (w : ℕ) (s : State) (k t : ℕ) (ps : passes (field w 28 4) s.status 
   loading : (i : Block) → read_of w ≡ Instruction.Block i → i.l ≡ true → (xs : List ℕ) (x j : ℕ) (h : List ℕ) (b u v : ℕ)
       → drop j (block.named i.list) ≡ x ∷ xs → v ≡ 4 + j
       → Flight k v (more (length (x ∷ xs)) (refills (block.loads (x ∷ xs) h f b mem).goes))
-      (at h f (in_flight a mem (Word w)) (Later (suc j)) (latches (next_to_move xs b) (read_word mem b) 0) (counts u k) mem)
+      (at h f (in_flight a mem (Some w)) (Later (suc j)) (latches (next_to_move xs b) (read_word mem b) 0) (counts u k) mem)
       (boundary (plain_at (leaves s (effect (block.loads (x ∷ xs) h f b mem) mem)))
       (suc k) (climb (more (length (x ∷ xs)) (refills (block.loads (x ∷ xs) h f b mem).goes)) u))
   unfolding cycle own_of due block_load_later load_step block.loads lead
@@ -302,7 +300,7 @@ module _ (w : ℕ) (s : State) (k t : ℕ) (ps : passes (field w 28 4) s.status 
   )
 
   block_load : (i : Block) (x : ℕ) (xs : List ℕ) → read_of w ≡ Instruction.Block i → i.l ≡ true → block.named i.list ≡ x ∷ xs
-      → FliesTo (Word w) s k t (suc (block.count i)) (block_load_effect i s)
+      → FliesTo (Some w) s k t (suc (block.count i)) (block_load_effect i s)
   unfolding cycle own_of due block_load_later block_load_effect lead
   block_load i x xs e l d =
       rw (ps, e, block-load-first i g f (ahead a 8) mem l, turn12 a) (
@@ -315,7 +313,7 @@ module _ (w : ℕ) (s : State) (k t : ℕ) (ps : passes (field w 28 4) s.status 
   storing : (i : Block) → read_of w ≡ Instruction.Block i → i.l ≡ false → (xs : List ℕ) (x j : ℕ) (h : List ℕ) (b u v : ℕ) (new : Memory)
       → drop (suc j) (block.named i.list) ≡ x ∷ xs → v ≡ 4 + j → Keeps a mem (block.stores (x ∷ xs) h f (ahead a 12) b new)
       → Flight k v (more (length (x ∷ xs)) 0)
-      (at h f (in_flight a mem (Word w)) (Later (suc j)) (latches b (single.stored_value h x f (ahead a 12)) 0) (counts u k) new)
+      (at h f (in_flight a mem (Some w)) (Later (suc j)) (latches b (single.stored_value h x f (ahead a 12)) 0) (counts u k) new)
       (boundary (plain_at (state h f (ahead a 4) (block.stores (x ∷ xs) h f (ahead a 12) b new))) (suc k) (climb (more (length (x ∷ xs)) 0) u))
   unfolding cycle own_of due block_store_later store_step block.stores lead
   storing i e l [] x j h b u v new d c ks = (
@@ -330,7 +328,7 @@ module _ (w : ℕ) (s : State) (k t : ℕ) (ps : passes (field w 28 4) s.status 
 
   block_store : (i : Block) (x : ℕ) (xs : List ℕ) → read_of w ≡ Instruction.Block i → i.l ≡ false → block.named i.list ≡ x ∷ xs
       → Keeps a mem (block_store_effect i s).memory
-      → FliesTo (Word w) s k t (block.count i) (block_store_effect i s)
+      → FliesTo (Some w) s k t (block.count i) (block_store_effect i s)
   unfolding cycle own_of due block_store_later store_step block_store_effect block.stores_all block.stores lead
   block_store i x [] e l d ks =
       rw (ps, e, block-store-first i g f (ahead a 8) mem l, turn12 a, d) (
@@ -409,21 +407,21 @@ module _ (s : State) (short : s.memory.board.size ≤ most_bytes) where
 -- ---- the instruction lemma
 
 module _ (w : ℕ) (s : State) (k t : ℕ) (range : s.a < counters) (short : s.memory.board.size ≤ most_bytes) (ps : passes (field w 28 4) s.status ≡ true) where
-  done : (i : Instruction) → read_of w ≡ i → Quiet i s → FliesTo (Word w) s k t (extra i s.registers) (effect_of i s)
+  done : (i : Instruction) → read_of w ≡ i → Quiet i s → FliesTo (Some w) s k t (extra i s.registers) (effect_of i s)
   done (Instruction.Processing i) e q = go (by_register? i.operand) refl
     where
-      go : (b : Bool) → by_register? i.operand ≡ b → FliesTo (Word w) s k t (extra (Instruction.Processing i) s.registers) (effect_of (Instruction.Processing i) s)
+      go : (b : Bool) → by_register? i.operand ≡ b → FliesTo (Some w) s k t (extra (Instruction.Processing i) s.registers) (effect_of (Instruction.Processing i) s)
       go true b = shifted w s k t ps i e b
       go false b = simple w s k t ps i e b
   done (Instruction.Single i) e q = go i.l refl
     where
-      go : (b : Bool) → i.l ≡ b → FliesTo (Word w) s k t (pick b 2 1) (effect_of (Instruction.Single i) s)
+      go : (b : Bool) → i.l ≡ b → FliesTo (Some w) s k t (pick b 2 1) (effect_of (Instruction.Single i) s)
       go true l = rw (load-effect i s l) (load w s k t ps i e l)
       go false l = rw (store-effect i s l) (store w s k t ps i e l (single-keeps s short i l q))
   done (Instruction.Block i) e q = go i.l refl (names-some i s q.allowed)
     where
       go : (b : Bool) → i.l ≡ b → (x : ℕ) × (xs : List ℕ) × (block.named i.list ≡ x ∷ xs)
-          → FliesTo (Word w) s k t (pick b (suc (block.count i)) (block.count i)) (effect_of (Instruction.Block i) s)
+          → FliesTo (Some w) s k t (pick b (suc (block.count i)) (block.count i)) (effect_of (Instruction.Block i) s)
       go true l d = rw (block-load-effect i s l) (block_load w s k t ps i d.0 d.1 e l d.2)
       go false l d =
           let z : block.count i ≢ 0 = λ c. let y = ap length (sym d.2) ∙ c in omega arith in
@@ -439,17 +437,17 @@ extra_due skipped s = 0
 extra_due (executes i) s = extra i s.registers
 
 abbrev pub effect_due : Due → State → Effect
-effect_due no_word_there s = effect (out s.registers s.status Next) s.memory
-effect_due skipped s = effect (out s.registers s.status Next) s.memory
+effect_due no_word_there s = effect (out s.registers s.status None) s.memory
+effect_due skipped s = effect (out s.registers s.status None) s.memory
 effect_due (executes i) s = effect_of i s
 
-pub flies : (x : Fetched) (s : State) (k t : ℕ) → s.a < counters → s.memory.board.size ≤ most_bytes → stop_for x s ≡ 0
+pub flies : (x : Option ℕ) (s : State) (k t : ℕ) → s.a < counters → s.memory.board.size ≤ most_bytes → stop_for x s ≡ 0
     → FliesTo x s k t (extra_due (due x s.status) s) (effect_due (due x s.status) s)
 unfolding stop_for due
-flies Blank s k t r h e = absurd (omega arith)
-flies (Word w) s k t r h e = go (passes (field w 28 4) s.status) refl
+flies None s k t r h e = absurd (omega arith)
+flies (Some w) s k t r h e = go (passes (field w 28 4) s.status) refl
   where
     go : (b : Bool) → passes (field w 28 4) s.status ≡ b
-        → FliesTo (Word w) s k t (extra_due (due (Word w) s.status) s) (effect_due (due (Word w) s.status) s)
+        → FliesTo (Some w) s k t (extra_due (due (Some w) s.status) s) (effect_due (due (Some w) s.status) s)
     go true p = rw p (done w s k t r h p (read_of w) refl (quietly (read_of w) s (rw p at e)))
     go false p = rw p (skips-on w s k t p)

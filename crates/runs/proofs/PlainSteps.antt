@@ -1,5 +1,6 @@
 -- The plain machine's step in terms of what is due at A, and the instruction lemma said of it.
 -- Assumes nothing.
+use Rattle.std.specs.Prelude.{Option, ℕ, Some, None}
 use Prim.Native.Nat.{ℕ, zero, suc, ◌+◌, ◌≤◌, ◌<◌}
 use mathlib.Core.Path.{◌≡◌, refl, sym, ◌∙◌}
 use mathlib.Core.Bool.{Bool, true, false, not, ◌||◌}
@@ -11,10 +12,7 @@ use Rattle.word.specs.declared.Instruction.{Instruction}
 use Rattle.word.specs.Reader.{is_other}
 use Rattle.datapath.specs.Counter.{ahead, counters}
 use Rattle.datapath.proofs.Counters.{ahead-lt, behind-ahead, counter-lt}
-use Rattle.memory.specs.declared.Fetched.{Fetched}
 use Rattle.memory.specs.Memory.{word_at}
-use Rattle.registers.specs.declared.Goes.{Goes}
-use Rattle.registers.specs.declared.Goes.TheVariants.{Next, To}
 use Rattle.registers.specs.State.{State}
 use Rattle.transfer.proofs.Lengths.{stored-to-alike, stores-all-alike}
 use Rattle.stops.specs.Rules.{rule_broken}
@@ -36,7 +34,7 @@ use Rattle.runs.specs.Boundary.{boundary}
 use Rattle.runs.proofs.Flight.{Flight, climb, more, plain_at}
 use Rattle.runs.proofs.Instruction.{own-steps, leaves, extra_due, effect_due, flies}
 
-abbrev word_of : plain.Machine → Fetched
+abbrev word_of : plain.Machine → Option ℕ
 word_of p = word_at (plain.state_of p).memory p.plain.a
 
 abbrev due_at : plain.Machine → Due
@@ -111,9 +109,9 @@ boundary-stop p k t h = rw (behind-ahead p.plain.a h) (sym (stop_is p))
 
 -- ---- ranges that a step keeps
 
-pub next-lt : (a : ℕ) (t : Goes) → next_address a t < counters
-next-lt a Next = ahead-lt a 4
-next-lt a (To w) = counter-lt w
+pub next-lt : (a : ℕ) (t : Option ℕ) → next_address a t < counters
+next-lt a None = ahead-lt a 4
+next-lt a (Some w) = counter-lt w
 
 pub step_range : (p : plain.Machine) → p.plain.a < counters → (plain.step p).plain.a < counters
 unfolding plain.step plain.performed_at performs
@@ -173,7 +171,7 @@ among : (b : Bool) (q m : ℕ) → 21 ≤ q → q ≤ 25 → Stop m → Stop (pi
 among true q m h k o = inr (h, k)
 among false q m h k o = o
 
-pub stop-for : (x : Fetched) (s : State) → Stop (stop_for x s)
+pub stop-for : (x : Option ℕ) (s : State) → Stop (stop_for x s)
 unfolding stop_for stops.stop_of stops.moved_stop
 stop-for x s = go (due x s.status)
   where

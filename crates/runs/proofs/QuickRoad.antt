@@ -1,5 +1,6 @@
 -- The quick road: a run goes on from the boundary after whole instructions.
 -- Assumes nothing.
+use Rattle.std.specs.Prelude.{Option, ℕ, Some, None}
 use Prim.Native.Nat.{ℕ, zero, suc, ◌+◌, ◌-◌, ◌≤◌, ◌<◌}
 use mathlib.Core.Path.{◌≡◌, refl, sym, ap, subst, ◌∙◌}
 use mathlib.Core.List.{List}
@@ -12,8 +13,6 @@ use Rattle.bits.specs.Choice.{pick}
 use Rattle.datapath.specs.Counter.{ahead, behind, counters}
 use Rattle.datapath.proofs.Counters.{behind-lt, ahead-behind}
 use Rattle.memory.specs.Memory.{memory_of, word_at}
-use Rattle.memory.specs.declared.Fetched.{Fetched}
-use Rattle.memory.specs.declared.Fetched.TheVariants.{Word, Blank}
 use Rattle.plain.specs.Machine as plain
 use Rattle.plain.specs.Trace.{stop_met, duration}
 use Rattle.plain.specs.Numbers.{most_bytes}
@@ -129,11 +128,11 @@ is-step1 Refill1 e = cc
 is-step1 Refill2 e = cc
 is-step1 (Later k) e = cc
 
-are-same : (x y : Fetched) → same x y ≡ true → x ≡ y
-are-same (Word v) (Word w) e = ap Word (eqb-true v w e)
-are-same (Word v) Blank e = cc
-are-same Blank (Word w) e = cc
-are-same Blank Blank e = refl
+are-same : (x y : Option ℕ) → same x y ≡ true → x ≡ y
+are-same (Some v) (Some w) e = ap Some (eqb-true v w e)
+are-same (Some v) None e = cc
+are-same None (Some w) e = cc
+are-same None None e = refl
 
 -- what the test says, part by part
 module _ (g : List ℕ) (c : Control) (mem : List ℕ) (t : stands c mem ≡ true) where

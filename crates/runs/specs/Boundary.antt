@@ -1,10 +1,8 @@
 -- The core that stands for a plain machine between instructions, and the cycles that it is beyond their durations.
-use Rattle.std.specs.Prelude.{ℕ, suc, ◌+◌, List}
+use Rattle.std.specs.Prelude.{ℕ, suc, ◌+◌, List, Option, Some, None}
 use Rattle.word.specs.Reader.{read_of}
 use Rattle.datapath.specs.Counter.{ahead}
 use Rattle.memory.specs.Memory.{word_at}
-use Rattle.memory.specs.declared.Fetched.{Fetched}
-use Rattle.memory.specs.declared.Fetched.TheVariants.{Word, Blank}
 use Rattle.semantics.specs.Duration.{own_steps}
 use Rattle.plain.specs.Machine as plain
 use Rattle.steps.specs.declared.Phase.{Phase}
@@ -28,12 +26,12 @@ boundary p k t =
     }) p.memory
 
 -- the own steps of the word in IX, in the core's refills
-abbrev pub steps_of : Fetched → List ℕ → ℕ
-steps_of Blank g = 0
-steps_of (Word w) g = 2 + own_steps (read_of w) g
+abbrev pub steps_of : Option ℕ → List ℕ → ℕ
+steps_of None g = 0
+steps_of (Some w) g = 2 + own_steps (read_of w) g
 
 -- the cycles beyond the durations of the instructions done: the start's 2, and the steps under way
-abbrev pub lead_in : Phase → Fetched → List ℕ → ℕ
+abbrev pub lead_in : Phase → Option ℕ → List ℕ → ℕ
 lead_in Step1 ix g = 2
 lead_in Refill1 ix g = steps_of ix g
 lead_in Refill2 ix g = suc (steps_of ix g)

@@ -1,10 +1,8 @@
 -- The quick road of a run: where the core stands between two instructions, whole ones by the plain machine's step.
-use Rattle.std.specs.Prelude.{ℕ, ◌+◌, ◌-◌, ◌≤◌, ◌≡◌, Bool, true, false, ◌&&◌, List, ltb, leb, eqb}
+use Rattle.std.specs.Prelude.{ℕ, ◌+◌, ◌-◌, ◌≤◌, ◌≡◌, Bool, true, false, ◌&&◌, List, ltb, leb, eqb, Option, Some, None}
 use Rattle.bits.specs.Choice.{pick}
 use Rattle.datapath.specs.Counter.{ahead, behind, counters}
 use Rattle.memory.specs.Memory.{Memory, memory_of, word_at}
-use Rattle.memory.specs.declared.Fetched.{Fetched}
-use Rattle.memory.specs.declared.Fetched.TheVariants.{Word, Blank}
 use Rattle.plain.specs.Machine as plain
 use Rattle.cycle.specs.declared.Control.{Control}
 use Rattle.plain.specs.Numbers.{most_bytes}
@@ -29,11 +27,11 @@ longer n s = stretch (n + s.used) s.machine
 
 -- ---- where whole instructions may begin
 
-abbrev pub same : Fetched → Fetched → Bool
-same (Word v) (Word w) = eqb v w
-same (Word v) Blank = false
-same Blank (Word w) = false
-same Blank Blank = true
+abbrev pub same : Option ℕ → Option ℕ → Bool
+same (Some v) (Some w) = eqb v w
+same (Some v) None = false
+same None (Some w) = false
+same None None = true
 
 -- no stop held, and nothing latched
 abbrev pub clear : Control → Bool

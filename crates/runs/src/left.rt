@@ -4,16 +4,15 @@ ghost use Rattle.cycle.specs.Machine.{machine};
 ghost use Rattle.runs.specs.CyclesLeft.{rest, cycles_left};
 
 use cycle::Control;
-use memory::Fetched;
 use semantics::duration::duration_of;
 use steps::Phase;
 
 // Before step k + 2 of the word in IX.
-fn rest(ix: Fetched, k: u32, registers: &[u32; 15]) -> u64
+fn rest(ix: Option<u32>, k: u32, registers: &[u32; 15]) -> u64
     ensures { result ≡ rest ix (suc k) registers.now }
 {
     match ix {
-        Fetched::Word(word) => {
+        Some(word) => {
             let duration = duration_of(word, registers);
             if k < duration {
                 (duration - k - 1) as u64
@@ -21,7 +20,7 @@ fn rest(ix: Fetched, k: u32, registers: &[u32; 15]) -> u64
                 0
             }
         }
-        Fetched::Blank => 0,
+        None => 0,
     }
 }
 

@@ -10,22 +10,22 @@ use crate::Advanced;
 use cycle::stop::is_step1;
 use cycle::{Control, Counts, Pipe};
 use datapath::counter::{COUNTERS, ahead, behind};
-use memory::{Board, Fetched, fetch};
+use memory::{Board, fetch};
 use plain::numbers::MOST_BYTES;
 use plain::whole::{LONGEST, wholes};
 use steps::{Latches, Phase};
 
-fn same(x: Fetched, y: Fetched) -> bool
+fn same(x: Option<u32>, y: Option<u32>) -> bool
     ensures { result ≡ same x y }
 {
     match x {
-        Fetched::Word(v) => match y {
-            Fetched::Word(w) => v == w,
-            Fetched::Blank => false,
+        Some(v) => match y {
+            Some(w) => v == w,
+            None => false,
         },
-        Fetched::Blank => match y {
-            Fetched::Word(_) => false,
-            Fetched::Blank => true,
+        None => match y {
+            Some(_) => false,
+            None => true,
         },
     }
 }

@@ -1,5 +1,6 @@
 -- No instruction takes more than 20 cycles.
 -- Assumes nothing.
+use Rattle.std.specs.Prelude.{Option, ℕ, Some, None}
 use Rattle.std.proofs.Common.{◌≡◌, ℕ, ◌+◌, ◌≤◌, Bool, true, false, eqb, List, refl, suc-le-suc, arith}
 use Rattle.bits.specs.Choice.{pick}
 use Rattle.word.specs.declared.Processing.{Processing}
@@ -7,22 +8,19 @@ use Rattle.word.specs.declared.Single.{Single}
 use Rattle.word.specs.declared.Block.{Block}
 use Rattle.word.specs.declared.Multiply.{Multiply}
 use Rattle.word.specs.declared.Instruction.{Instruction}
-use Rattle.registers.specs.declared.Goes.{Goes}
-use Rattle.registers.specs.declared.Goes.TheVariants.{Next, To}
 use Rattle.processing.specs.Processing.{by_register?}
 use Rattle.multiply.proofs.InternalCycles.{m-bounds}
 use Rattle.transfer.specs.Block.{count}
 use Rattle.transfer.proofs.NamedRegisters.{named-length}
-use Rattle.memory.specs.declared.Fetched.{Fetched}
 use Rattle.registers.specs.State.{State}
 use Rattle.stops.specs.Stops.{Due, no_word_there, skipped, executes, due, stop_of}
 use Rattle.semantics.specs.Effect.{effect_of}
 use Rattle.semantics.specs.Duration.{processing_steps, single_steps, block_steps, multiply_steps, refills, own_steps}
 use Rattle.semantics.specs.Perform.{executed, performed_due, performs}
 
-pub refills-short : (t : Goes) → refills t ≤ 2
-refills-short Next = omega arith
-refills-short (To w) = omega arith
+pub refills-short : (t : Option ℕ) → refills t ≤ 2
+refills-short None = omega arith
+refills-short (Some w) = omega arith
 
 either : (b : Bool) (m n : ℕ) → m ≤ 18 → n ≤ 18 → pick b m n ≤ 18
 either true m n h k = h
@@ -50,7 +48,7 @@ steps-short (Instruction.Branch i) g = omega arith
 steps-short (Instruction.Multiply i) g = omega (arith, multiply-short i g)
 steps-short (Instruction.Other w) g = omega arith
 
-pub performed-short : (x : Fetched) (s : State) → (performs x s).performed.cycles ≤ 20
+pub performed-short : (x : Option ℕ) (s : State) → (performs x s).performed.cycles ≤ 20
 unfolding performs executed
 performed-short x s = go (due x s.status)
   where

@@ -1,12 +1,12 @@
 -- The base register after a transfer.
 -- Assumes nothing.
+use Rattle.std.specs.Prelude.{Some, None}
 use Rattle.std.proofs.Common.{◌≡◌, ℕ, suc, ◌+◌, ◌*◌, ◌^◌, ◌<◌, Bool, true, false, not, ◌||◌, ltb, ◌≢◌, List, [], ◌∷◌, length, get_or, set, sym, refl, ◌∙◌, arith, get_or-set_other, get_or-set_same, lt-ltb}
 use Rattle.bits.specs.Choice.{pick}
 use Rattle.word.specs.declared.Single.{Single}
 use Rattle.word.specs.declared.Block.{Block}
 use Rattle.datapath.specs.Counter.{ahead}
 use Rattle.memory.specs.Memory.{Memory, read_word}
-use Rattle.registers.specs.declared.Goes.TheVariants.{Next, To}
 use Rattle.registers.specs.State.{State}
 use Rattle.registers.specs.Registers.{register, put, out, arrives}
 use Rattle.transfer.specs.Single as single
@@ -37,7 +37,7 @@ arrives-other : (g : List ℕ) (f n v r : ℕ) → r ≢ n → get_or (arrives g
 unfolding arrives
 arrives-other g f n v r d = go (ltb n 15)
   where
-    go : (t : Bool) → get_or (pick t (out (set g n v) f Next) (out g f (To v))).registers r 0 ≡ get_or g r 0
+    go : (t : Bool) → get_or (pick t (out (set g n v) f None) (out g f (Some v))).registers r 0 ≡ get_or g r 0
     go true = get_or-set_other g n r v 0 d
     go false = refl
 

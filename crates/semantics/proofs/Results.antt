@@ -1,5 +1,6 @@
 -- What the functions of `perform` join: the parts of an instruction, and a stop or an effect.
 -- Assumes nothing.
+use Rattle.std.specs.Prelude.{Option, ℕ, Some, None}
 use Rattle.std.proofs.Common.{◌≡◌, ℕ, ◌+◌, true, false, List, sym, refl, ap, ◌∙◌, arith}
 use Rattle.bits.specs.Bits.{field}
 use Rattle.bits.proofs.Tests.{zero-by, nonzero-by}
@@ -12,12 +13,8 @@ use Rattle.word.specs.declared.Instruction.{Instruction}
 use Rattle.word.specs.Reader.{read_of}
 use Rattle.condition.specs.Condition.{passes}
 use Rattle.datapath.specs.Counter.{ahead, counter}
-use Rattle.memory.specs.declared.Fetched.{Fetched}
-use Rattle.memory.specs.declared.Fetched.TheVariants.{Word, Blank}
 use Rattle.memory.specs.Memory.{Memory}
 use Rattle.registers.specs.declared.Outcome.{Outcome}
-use Rattle.registers.specs.declared.Goes.{Goes}
-use Rattle.registers.specs.declared.Goes.TheVariants.{Next, To}
 use Rattle.registers.specs.Registers.{Out, out}
 use Rattle.registers.specs.State.{State}
 use Rattle.processing.specs.Processing.{processed, reads_at}
@@ -38,29 +35,29 @@ and_none : (s : ℕ) → s ≡ s + 0
 and_none s = omega arith
 
 -- the counter went on, or was stored
-pub went_on : {p : Performed} {t : Goes} {f : ℕ} (a steps : ℕ) → t ≡ Next → p ≡ performed 0 f (ahead a 4) steps
+pub went_on : {p : Performed} {t : Option ℕ} {f : ℕ} (a steps : ℕ) → t ≡ None → p ≡ performed 0 f (ahead a 4) steps
     → p ≡ performed 0 f (next_address a t) (steps + refills t)
 went_on {f = f} a steps e q =
-    q ∙ ap (performed 0 f (ahead a 4)) (and_none steps) ∙ ap (λ (x : Goes). performed 0 f (next_address a x) (steps + refills x)) (sym e)
+    q ∙ ap (performed 0 f (ahead a 4)) (and_none steps) ∙ ap (λ (x : Option ℕ). performed 0 f (next_address a x) (steps + refills x)) (sym e)
 
-pub went_to : {t : Goes} {f w next : ℕ} (a steps : ℕ) → t ≡ To w → next ≡ counter w
+pub went_to : {t : Option ℕ} {f w next : ℕ} (a steps : ℕ) → t ≡ Some w → next ≡ counter w
     → performed 0 f next (steps + 2) ≡ performed 0 f (next_address a t) (steps + refills t)
 went_to {f = f} a steps e q =
-    ap (λ (n : ℕ). performed 0 f n (steps + 2)) q ∙ ap (λ (x : Goes). performed 0 f (next_address a x) (steps + refills x)) (sym e)
+    ap (λ (n : ℕ). performed 0 f n (steps + 2)) q ∙ ap (λ (x : Option ℕ). performed 0 f (next_address a x) (steps + refills x)) (sym e)
 
 -- what is left, put together again
 pub whole : {o : Out} {h : List ℕ} {t : Outcome} → Left o h t → out h t.flags t.goes ≡ o
 whole {o} l = rw (l.registers, l.flags, l.goes)
 
 -- an instruction done, from what it left
-pub finished : (s : State) (steps : ℕ) {p : Performed} {h : List ℕ} {f : ℕ} {t : Goes} {o : Out} {mem : Memory}
+pub finished : (s : State) (steps : ℕ) {p : Performed} {h : List ℕ} {f : ℕ} {t : Option ℕ} {o : Out} {mem : Memory}
     → p ≡ performed 0 f (next_address s.a t) (steps + refills t) → out h f t ≡ o → result_of p h mem ≡ done s steps (effect o mem)
 finished s steps {p} {h} {f} {t} {mem = mem} q e =
     ap (λ (x : Performed). result_of x h mem) q ∙ ap (λ (x : Out). done s steps (effect x mem)) e
 
 -- in so many own steps
 module _ (s : State) (steps : ℕ) {p : Performed} {h : List ℕ} where
-  pub load_done : (i : Single) {base address value : ℕ} {f₂ : ℕ} {t : Goes}
+  pub load_done : (i : Single) {base address value : ℕ} {f₂ : ℕ} {t : Option ℕ}
       → base ≡ single.changed_base i s.registers s.status (ahead s.a 8) → address ≡ single.address_of i s.registers s.status (ahead s.a 8) → value ≡ single.loaded_value i s.memory address
       → p ≡ performed 0 f₂ (next_address s.a t) (steps + refills t) → out h f₂ t ≡ base_then_register i s.registers s.status base value
       → result_of p h s.memory ≡ done s steps (load_effect i s)
@@ -70,9 +67,9 @@ module _ (s : State) (steps : ℕ) {p : Performed} {h : List ℕ} where
   pub store-done : (i : Single) {new : Memory} → h ≡ (store_effect i s).out.registers → new ≡ (store_effect i s).memory
       → p ≡ performed 0 s.status (ahead s.a 4) steps → result_of p h new ≡ done s steps (store_effect i s)
   unfolding store_effect
-  store-done i w n q = rw (went_on {t = Next} s.a steps refl q, w, n)
+  store-done i w n q = rw (went_on {t = None} s.a steps refl q, w, n)
 
-  pub block-load-done : (i : Block) {base lowest : ℕ} {f₂ : ℕ} {t : Goes} → lowest ≡ block.lowest_address i s.registers → base ≡ block.changed_base i s.registers
+  pub block-load-done : (i : Block) {base lowest : ℕ} {f₂ : ℕ} {t : Option ℕ} → lowest ≡ block.lowest_address i s.registers → base ≡ block.changed_base i s.registers
       → p ≡ performed 0 f₂ (next_address s.a t) (steps + refills t) → out h f₂ t ≡ base_then_registers i s.registers s.status base lowest s.memory
       → result_of p h s.memory ≡ done s steps (block_load_effect i s)
   unfolding block_load_effect
@@ -81,7 +78,7 @@ module _ (s : State) (steps : ℕ) {p : Performed} {h : List ℕ} where
   pub block-store-done : (i : Block) {new : Memory} → h ≡ (block_store_effect i s).out.registers → new ≡ (block_store_effect i s).memory
       → p ≡ performed 0 s.status (ahead s.a 4) steps → result_of p h new ≡ done s steps (block_store_effect i s)
   unfolding block_store_effect
-  block-store-done i w e q = rw (went_on {t = Next} s.a steps refl q, w, e)
+  block-store-done i w e q = rw (went_on {t = None} s.a steps refl q, w, e)
 
 -- ---- a passing condition: stopped, or done
 
@@ -118,24 +115,24 @@ module _ (i : Block) (s : State) where
   unfolding own_steps effect_of
   block-store e = rw e
 
-pub processing-done : (i : Processing) (s : State) {steps pc : ℕ} {p : Performed} {h : List ℕ} {f₂ : ℕ} {t : Goes}
+pub processing-done : (i : Processing) (s : State) {steps pc : ℕ} {p : Performed} {h : List ℕ} {f₂ : ℕ} {t : Option ℕ}
     → steps ≡ processing_steps i → pc ≡ reads_at i s.a → p ≡ performed 0 f₂ (next_address s.a t) (steps + refills t) → out h f₂ t ≡ processed i s.registers s.status pc
     → result_of p h s.memory ≡ done s (own_steps (Instruction.Processing i) s.registers) (effect_of (Instruction.Processing i) s)
 unfolding own_steps effect_of
 processing-done i s {steps} n c q o = rw (← n) (finished s steps {o = (effect_of (Instruction.Processing i) s).out} q (o ∙ rw c))
 
-pub branch-done : (i : Branch) (s : State) {p : Performed} {h : List ℕ} {f₂ : ℕ} {t : Goes}
+pub branch-done : (i : Branch) (s : State) {p : Performed} {h : List ℕ} {f₂ : ℕ} {t : Option ℕ}
     → p ≡ performed 0 f₂ (next_address s.a t) (1 + refills t) → out h f₂ t ≡ branched i s.registers s.status s.a
     → result_of p h s.memory ≡ executed (Instruction.Branch i) s
 unfolding executed stop_of rule_broken moved_stop moves_of own_steps effect_of
 branch-done i s q o = finished s 1 q o
 
 pub multiply-done : (i : Multiply) (s : State) {steps : ℕ} {p : Performed} {h : List ℕ} {f₂ : ℕ}
-    → steps ≡ multiply_steps i s.registers → p ≡ performed 0 f₂ (ahead s.a 4) steps → out h f₂ Next ≡ multiplied i s.registers s.status
+    → steps ≡ multiply_steps i s.registers → p ≡ performed 0 f₂ (ahead s.a 4) steps → out h f₂ None ≡ multiplied i s.registers s.status
     → result_of p h s.memory ≡ done s (own_steps (Instruction.Multiply i) s.registers) (effect_of (Instruction.Multiply i) s)
 unfolding own_steps effect_of
 multiply-done i s {steps} n q o =
-    rw (← n) (finished s steps {o = (effect_of (Instruction.Multiply i) s).out} (went_on {t = Next} s.a steps refl q) o)
+    rw (← n) (finished s steps {o = (effect_of (Instruction.Multiply i) s).out} (went_on {t = None} s.a steps refl q) o)
 
 pub other-stop : (w : ℕ) (s : State) {p : Performed} → p ≡ stopped_at other_word s.status s.a → result_of p s.registers s.memory ≡ executed (Instruction.Other w) s
 unfolding executed stop_of
@@ -148,20 +145,20 @@ read_as s e q = q ∙ ap (λ i. executed i s) e
 -- ---- a word: its condition passes, or fails
 
 module _ (w : ℕ) (s : State) where
-  pub passing : {r : Result} → passes (field w 28 4) s.status ≡ true → r ≡ executed (read_of w) s → r ≡ performs (Word w) s
+  pub passing : {r : Result} → passes (field w 28 4) s.status ≡ true → r ≡ executed (read_of w) s → r ≡ performs (Some w) s
   unfolding performs due
   passing p e = e ∙ rw p
 
   pub failing : {p : Performed} → passes (field w 28 4) s.status ≡ false → p ≡ performed 0 s.status (ahead s.a 4) skipped_steps
-      → result_of p s.registers s.memory ≡ performs (Word w) s
+      → result_of p s.registers s.memory ≡ performs (Some w) s
   unfolding performs due
   failing e q = rw (q, e)
 
 -- ---- what was fetched
 
-pub fetched-as : {x y : Fetched} (s : State) {r : Result} → x ≡ y → r ≡ performs y s → r ≡ performs x s
+pub fetched-as : {x y : Option ℕ} (s : State) {r : Result} → x ≡ y → r ≡ performs y s → r ≡ performs x s
 fetched-as s e q = q ∙ ap (λ x. performs x s) (sym e)
 
-pub blank-stop : (s : State) {p : Performed} → p ≡ stopped_at no_word s.status s.a → result_of p s.registers s.memory ≡ performs Blank s
+pub blank-stop : (s : State) {p : Performed} → p ≡ stopped_at no_word s.status s.a → result_of p s.registers s.memory ≡ performs None s
 unfolding performs due
 blank-stop s q = ap (λ (x : Performed). result_of x s.registers s.memory) q

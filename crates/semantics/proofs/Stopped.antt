@@ -1,7 +1,7 @@
 -- A stop changes only the stop, proved.
 -- Assumes nothing.
+use Rattle.std.specs.Prelude.{Option, ℕ}
 use Rattle.std.proofs.Common.{◌≡◌, ℕ, Bool, true, false, eqb, ◌≢◌, refl, ne_eqb, eqb-true}
-use Rattle.memory.specs.declared.Fetched.{Fetched}
 use Rattle.registers.specs.State.{State}
 use Rattle.stops.specs.Stops.{Due, no_word_there, skipped, executes, due, stop_of, stop_due, stop_for}
 use Rattle.semantics.specs.Perform.{stopped, executed, performed_due, performs}
@@ -27,6 +27,6 @@ module _ (s : State) where
   unchanged skipped n = absurd (n refl)
   unchanged (executes i) n = rw (ne_eqb (stop_of i s) 0 n) (same (stop_of i s))
 
-pub stopped-unchanged : (x : Fetched) (s : State) → Stopped x s
+pub stopped-unchanged : (x : Option ℕ) (s : State) → Stopped x s
 unfolding performs stop_for
 stopped-unchanged x s = record { stop = stop s (due x s.status); unchanged = unchanged s (due x s.status) }

@@ -1,5 +1,6 @@
 -- Whether an instruction stores the counter goes by its word alone, and so does its duration but for m.
 -- Assumes nothing.
+use Rattle.std.specs.Prelude.{Some, None}
 use Rattle.std.proofs.Common.{◌≡◌, ℕ, zero, suc, Bool, true, false, not, ◌&&◌, ltb, List, [], ◌∷◌, set, refl, arith}
 use Rattle.bits.specs.Choice.{pick}
 use Rattle.bits.specs.Bits.{bit}
@@ -8,7 +9,6 @@ use Rattle.word.specs.declared.Block.{Block}
 use Rattle.word.specs.declared.Instruction.{Instruction}
 use Rattle.datapath.specs.Alu.{stores_result}
 use Rattle.memory.specs.Memory.{Memory, read_word}
-use Rattle.registers.specs.declared.Goes.TheVariants.{Next, To}
 use Rattle.registers.specs.Registers.{out, put, arrives}
 use Rattle.processing.specs.Processing.{processed, stored}
 use Rattle.multiply.specs.Multiply.{multiplied}
@@ -25,7 +25,7 @@ pub arriving : (g : List ℕ) (f n v : ℕ) → refills (arrives g f n v).goes �
 unfolding arrives
 arriving g f n v = go (ltb n 15)
   where
-    go : (b : Bool) → refills (pick b (out (set g n v) f Next) (out g f (To v))).goes ≡ pick (not b) 2 0
+    go : (b : Bool) → refills (pick b (out (set g n v) f None) (out g f (Some v))).goes ≡ pick (not b) 2 0
     go true = refl
     go false = refl
 
@@ -44,7 +44,7 @@ pub processed-refills : (i : Processing) (g : List ℕ) (f pc : ℕ) → refills
 unfolding stores_counter processed stored
 processed-refills i g f pc = go (stores_result i.operation) _ _
   where
-    go : (b : Bool) (f v : ℕ) → refills (pick b (arrives g f i.rd v) (out g f Next)).goes ≡ pick (b && not (ltb i.rd 15)) 2 0
+    go : (b : Bool) (f v : ℕ) → refills (pick b (arrives g f i.rd v) (out g f None)).goes ≡ pick (b && not (ltb i.rd 15)) 2 0
     go true f v = arriving g f i.rd v
     go false f v = refl
 

@@ -1,5 +1,5 @@
 -- Own steps and duration (paper 01, the table of "Pipeline"; multiply: 02 §1).
-use Rattle.std.specs.Prelude.{◌≡◌, ℕ, suc, ◌+◌, Bool, true, false, not, ◌&&◌, List, nat_lt}
+use Rattle.std.specs.Prelude.{◌≡◌, ℕ, suc, ◌+◌, Bool, true, false, not, ◌&&◌, List, nat_lt, Option, Some, None}
 use Rattle.bits.specs.Choice.{pick}
 use Rattle.bits.specs.Bits.{bit}
 use Rattle.word.specs.declared.Processing.{Processing}
@@ -9,8 +9,6 @@ use Rattle.word.specs.declared.Multiply.{Multiply}
 use Rattle.word.specs.declared.Instruction.{Instruction}
 use Rattle.datapath.specs.Alu.{stores_result}
 use Rattle.datapath.specs.Counter.{ahead, counter}
-use Rattle.registers.specs.declared.Goes.{Goes}
-use Rattle.registers.specs.declared.Goes.TheVariants.{Next, To}
 use Rattle.registers.specs.State.{State}
 use Rattle.registers.specs.Registers.{register}
 use Rattle.processing.specs.Processing.{by_register?}
@@ -48,14 +46,14 @@ abbrev pub skipped_steps : ℕ
 skipped_steps = 1
 
 -- the refills of a stored counter
-abbrev pub refills : Goes → ℕ
-refills Next = 0
-refills (To word) = 2
+abbrev pub refills : Option ℕ → ℕ
+refills None = 0
+refills (Some word) = 2
 
 -- the address of the next instruction: a stored counter is bits 25..2 of its word
-abbrev pub next_address : ℕ → Goes → ℕ
-next_address a Next = ahead a 4
-next_address a (To word) = counter word
+abbrev pub next_address : ℕ → Option ℕ → ℕ
+next_address a None = ahead a 4
+next_address a (Some word) = counter word
 
 -- whether an instruction stores the counter goes by its word alone
 unfoldable pub stores_counter : Instruction → Bool

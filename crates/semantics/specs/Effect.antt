@@ -1,5 +1,5 @@
 -- What a whole instruction does that meets no stop and whose condition passes (paper 01, "Meaning"; multiply: 02 §1).
-use Rattle.std.specs.Prelude.{◌≡◌, ℕ, List}
+use Rattle.std.specs.Prelude.{◌≡◌, ℕ, List, None}
 use Rattle.bits.specs.Choice.{pick}
 use Rattle.word.specs.declared.Single.{Single}
 use Rattle.word.specs.declared.Block.{Block}
@@ -7,7 +7,6 @@ use Rattle.word.specs.declared.Instruction.{Instruction}
 use Rattle.datapath.specs.Counter.{ahead}
 use Rattle.memory.specs.Memory.{Memory}
 use Rattle.registers.specs.declared.Outcome.{Outcome}
-use Rattle.registers.specs.declared.Goes.TheVariants.{Next}
 use Rattle.registers.specs.Registers.{Out, out, arrives}
 use Rattle.registers.specs.State.{State}
 use Rattle.processing.specs.Processing.{processed, reads_at}
@@ -49,7 +48,7 @@ store_effect i s =
     let f = s.status in
     let pc = ahead s.a 8 in
     effect
-    (out (single.with_base i g (single.changed_base i g f pc)) f Next)
+    (out (single.with_base i g (single.changed_base i g f pc)) f None)
     (single.stored_to i s.memory (single.address_of i g f pc) (single.stored_value g i.rd f (ahead s.a 12)))
 
 -- the base, then the registers: a loaded base wins
@@ -66,7 +65,7 @@ block_store_effect i s =
     let g = s.registers in
     let h = block.with_base i g (block.changed_base i g) in
     effect
-    (out h s.status Next)
+    (out h s.status None)
     (block.stores_all (block.named i.list) g h s.status (ahead s.a 12) (block.lowest_address i g) s.memory)
 
 -- an Other is never done
@@ -76,4 +75,4 @@ effect_of (Instruction.Single i) s = pick i.l (load_effect i s) (store_effect i 
 effect_of (Instruction.Block i) s = pick i.l (block_load_effect i s) (block_store_effect i s)
 effect_of (Instruction.Branch i) s = effect (branched i s.registers s.status s.a) s.memory
 effect_of (Instruction.Multiply i) s = effect (multiplied i s.registers s.status) s.memory
-effect_of (Instruction.Other word) s = effect (out s.registers s.status Next) s.memory
+effect_of (Instruction.Other word) s = effect (out s.registers s.status None) s.memory

@@ -1,9 +1,8 @@
 -- The marked values of instructions (paper 01, "Marked values, proved together"), each of a whole instruction word; with them
 -- the base after a post-indexed load, and the cycle of a failed condition.
-use Rattle.std.specs.Prelude.{◌≡◌, ℕ, ◌+◌, true, List, [], ◌∷◌, length, replicate}
+use Rattle.std.specs.Prelude.{◌≡◌, ℕ, ◌+◌, true, List, [], ◌∷◌, length, replicate, Some}
 use Rattle.bits.specs.Bits.{bit, num}
 use Rattle.datapath.specs.Alu.{carry_of, overflow_of}
-use Rattle.memory.specs.declared.Fetched.TheVariants.{Word}
 use Rattle.memory.specs.Memory.{Memory, memory_of, read_word}
 use Rattle.registers.specs.State.{state}
 use Rattle.registers.specs.Registers.{register}
@@ -15,7 +14,7 @@ lent mem = memory_of (record { size = length mem }) mem
 
 -- a word at an address, with a value in R1 and 0 in the other registers
 abbrev pub performed_at : ℕ → ℕ → ℕ → ℕ → List ℕ → Result
-performed_at a word r1 f mem = performs (Word word) (state (0 ∷ r1 ∷ replicate 13 0) f a (lent mem))
+performed_at a word r1 f mem = performs (Some word) (state (0 ∷ r1 ∷ replicate 13 0) f a (lent mem))
 
 -- a memory of zeros, long enough for every address below
 abbrev pub zeros : List ℕ
@@ -23,7 +22,7 @@ zeros = replicate 0x110 0
 
 -- a word at 0, with values in R1 and R2 and 0 in the other registers
 abbrev pub processed_word : ℕ → ℕ → ℕ → ℕ → Result
-processed_word word r1 r2 f = performs (Word word) (state (0 ∷ r1 ∷ r2 ∷ replicate 12 0) f 0 (lent zeros))
+processed_word word r1 r2 f = performs (Some word) (state (0 ∷ r1 ∷ r2 ∷ replicate 12 0) f 0 (lent zeros))
 
 -- R0 and the flags afterwards
 pub record Leaves (r : Result) (r0 f : ℕ) : Type 0 where

@@ -1,8 +1,7 @@
 -- Marked multiplies (paper 02 §1), each of a whole instruction word: results, flags and cycles.
-use Rattle.std.specs.Prelude.{◌≡◌, ℕ, ◌+◌, ◌*◌, [], ◌∷◌, map, replicate}
+use Rattle.std.specs.Prelude.{◌≡◌, ℕ, ◌+◌, ◌*◌, [], ◌∷◌, map, replicate, Some}
 use Rattle.bits.specs.Bits.{num}
 use Rattle.datapath.specs.Alu.{carry_of}
-use Rattle.memory.specs.declared.Fetched.TheVariants.{Word}
 use Rattle.registers.specs.State.{state}
 use Rattle.registers.specs.Registers.{register}
 use Rattle.semantics.specs.Perform.{Result, performs}
@@ -10,7 +9,7 @@ use Rattle.semantics.specs.Marked.{lent, zeros, Leaves, kept_v}
 
 -- a word at 0, with values in R1, R2 and R3 and 0 in the other registers
 abbrev pub multiplied_word : ℕ → ℕ → ℕ → ℕ → ℕ → Result
-multiplied_word word r1 r2 r3 f = performs (Word word) (state (0 ∷ r1 ∷ r2 ∷ r3 ∷ replicate 11 0) f 0 (lent zeros))
+multiplied_word word r1 r2 r3 f = performs (Some word) (state (0 ∷ r1 ∷ r2 ∷ r3 ∷ replicate 11 0) f 0 (lent zeros))
 
 abbrev pub left_in : ℕ → Result → ℕ
 left_in n r = register r.registers n 0

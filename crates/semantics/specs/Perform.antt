@@ -1,9 +1,8 @@
 -- One step, in the paper's order: what is fetched at A is no word, or its condition fails, or it is stopped, or done (paper 01, "Plain machine").
-use Rattle.std.specs.Prelude.{◌≡◌, ℕ, ◌+◌, List, ◌==◌}
+use Rattle.std.specs.Prelude.{◌≡◌, ℕ, ◌+◌, List, ◌==◌, Option}
 use Rattle.bits.specs.Choice.{pick}
 use Rattle.word.specs.declared.Instruction.{Instruction}
 use Rattle.datapath.specs.Counter.{ahead}
-use Rattle.memory.specs.declared.Fetched.{Fetched}
 use Rattle.memory.specs.Memory.{Memory}
 use Rattle.registers.specs.State.{State}
 use Rattle.stops.specs.Numbers.{no_word}
@@ -46,7 +45,7 @@ performed_due no_word_there s = stopped no_word s
 performed_due skipped s = result_of (performed 0 s.status (ahead s.a 4) skipped_steps) s.registers s.memory
 performed_due (executes i) s = executed i s
 
-unfoldable pub performs : Fetched → State → Result
+unfoldable pub performs : Option ℕ → State → Result
 performs x s = performed_due (due x s.status) s
 
 -- an instruction that is done takes its duration, which goes by its word and the registers alone

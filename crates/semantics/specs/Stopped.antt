@@ -1,6 +1,5 @@
 -- A stop changes only the stop (paper 01, "Plain machine").
-use Rattle.std.specs.Prelude.{◌≡◌, ◌≢◌}
-use Rattle.memory.specs.declared.Fetched.{Fetched}
+use Rattle.std.specs.Prelude.{◌≡◌, ◌≢◌, Option, ℕ}
 use Rattle.registers.specs.State.{State}
 use Rattle.stops.specs.Stops.{stop_for}
 use Rattle.semantics.specs.Perform.{Result, performs}
@@ -14,6 +13,6 @@ pub record Unchanged (r : Result) (s : State) : Type 0 where
   pub cycles : r.performed.cycles ≡ 0
 
 -- what was fetched, in a state
-pub record Stopped (x : Fetched) (s : State) : Type 0 where
+pub record Stopped (x : Option ℕ) (s : State) : Type 0 where
   pub stop : (performs x s).performed.stop ≡ stop_for x s
   pub unchanged : stop_for x s ≢ 0 → Unchanged (performs x s) s

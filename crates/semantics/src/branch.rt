@@ -4,7 +4,7 @@ ghost use Rattle.registers.specs.Registers.{out};
 ghost use Rattle.semantics.specs.Branch.{target, linked, branched};
 
 use datapath::counter::{ahead, r15_word};
-use registers::{Goes, Outcome, put};
+use registers::{Outcome, put};
 use word::Branch;
 
 fn target(i: Branch, a: u32) -> u32
@@ -28,6 +28,6 @@ pub fn branch(i: Branch, registers: &mut [u32; 15], flags: u32, a: u32) -> Outco
     let to = target(i, a);
     Outcome {
         flags,
-        goes: Goes::To(to),
+        goes: Some(to),
     }
 }

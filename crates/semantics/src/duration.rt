@@ -10,7 +10,7 @@ use crate::own_steps::{
 };
 use bits::bit;
 use datapath::alu::stores_result;
-use word::{Block, Processing, Single, reader};
+use word::{Block, Instruction, Processing, Single, reader};
 
 fn with_refills(steps: u32, stores: bool) -> u32
     requires { steps ≤ 18 }
@@ -43,12 +43,12 @@ fn block_duration(i: Block) -> u32
 pub fn duration_of(word: u32, registers: &[u32; 15]) -> u32
     ensures { result ≡ duration_of (read_of word) registers.now }
 {
-    match reader::kind(word) {
-        0 => processing_duration(reader::processing(word, reader::processing_operand(word))),
-        1 => single_duration(reader::single(word, reader::single_offset(word))),
-        2 => block_duration(reader::block(word)),
-        3 => with_refills(BRANCH_STEPS, true),
-        4 => multiply_steps(reader::multiply(word), registers),
-        _ => 1,
+    match reader::read(word) {
+        Instruction::Processing(i) => processing_duration(i),
+        Instruction::Single(i) => single_duration(i),
+        Instruction::Block(i) => block_duration(i),
+        Instruction::Branch(_) => with_refills(BRANCH_STEPS, true),
+        Instruction::Multiply(i) => multiply_steps(i, registers),
+        Instruction::Other(_) => 1,
     }
 }

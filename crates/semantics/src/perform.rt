@@ -5,7 +5,6 @@ ghost use Rattle.word.specs.Reader.{read_of};
 ghost use Rattle.transfer.specs.Single.{changed_base, address_of};
 ghost use Rattle.transfer.specs.Block.{named, loads};
 ghost use Rattle.datapath.specs.Counter.{ahead};
-ghost use Rattle.memory.specs.declared.Fetched.{Fetched};
 ghost use Rattle.memory.specs.Memory.{Memory, memory_of, word_at};
 ghost use Rattle.registers.specs.Registers.{arrives};
 ghost use Rattle.registers.specs.State.{state};
@@ -22,10 +21,10 @@ use crate::own_steps::{
 use bits::field;
 use condition::passes;
 use datapath::counter::{ahead, counter};
-use memory::{Board, Fetched, fetch};
+use memory::{Board, fetch};
 use multiply::multiply;
-use processing::by_numbers::{process_taken, taken};
-use registers::{Goes, Outcome, arrive};
+use processing::{operand_at, process_taken};
+use registers::{Outcome, arrive};
 use stops::stop::{block_stop, multiply_stop, processing_stop, single_stop_at};
 use stops::{NO_WORD, OTHER_WORD};
 use transfer::{Reach, block, single};
@@ -50,8 +49,8 @@ fn done(a: u32, steps: u32, t: Outcome) -> Performed
 {
     let goes = t.goes;
     match goes {
-        Goes::Next => went_on(a, steps, t.flags),
-        Goes::To(word) => Performed {
+        None => went_on(a, steps, t.flags),
+        Some(word) => Performed {
             stop: 0,
             flags: t.flags,
             next: counter(word),
@@ -76,7 +75,7 @@ fn stopped(stop: u32, flags: u32, a: u32) -> Performed
 fn perform_processing(i: Processing, registers: &mut [u32; 15], flags: u32, a: u32) -> Performed
     ensures { (mem : Memory) → result_of result registers.new mem ≡ executed (Instruction.Processing i) (state registers.old flags a mem) }
 {
-    let t = taken(i, registers, flags, a);
+    let t = operand_at(i, registers, flags, a);
     let stop = processing_stop(i, registers, flags, a);
     if stop != 0 {
         return stopped(stop, flags, a);
@@ -281,25 +280,13 @@ fn execute(
 ) -> Performed
     ensures { result_of result registers.new (memory_of board memory.new) ≡ executed (read_of word) (state registers.old flags a (memory_of board memory.old)) }
 {
-    match reader::kind(word) {
-        0 => perform_processing(
-            reader::processing(word, reader::processing_operand(word)),
-            registers,
-            flags,
-            a,
-        ),
-        1 => perform_single(
-            reader::single(word, reader::single_offset(word)),
-            registers,
-            memory,
-            flags,
-            a,
-            board,
-        ),
-        2 => perform_block(reader::block(word), registers, memory, flags, a, board),
-        3 => perform_branch(reader::branch(word), registers, flags, a),
-        4 => perform_multiply(reader::multiply(word), registers, flags, a),
-        _ => stopped(OTHER_WORD, flags, a),
+    match reader::read(word) {
+        Instruction::Processing(i) => perform_processing(i, registers, flags, a),
+        Instruction::Single(i) => perform_single(i, registers, memory, flags, a, board),
+        Instruction::Block(i) => perform_block(i, registers, memory, flags, a, board),
+        Instruction::Branch(i) => perform_branch(i, registers, flags, a),
+        Instruction::Multiply(i) => perform_multiply(i, registers, flags, a),
+        Instruction::Other(_) => stopped(OTHER_WORD, flags, a),
     }
 }
 
@@ -311,7 +298,7 @@ fn perform(
     a: u32,
     board: Board,
 ) -> Performed
-    ensures { result_of result registers.new (memory_of board memory.new) ≡ performs (Fetched.Word word) (state registers.old flags a (memory_of board memory.old)) }
+    ensures { result_of result registers.new (memory_of board memory.new) ≡ performs (Some word) (state registers.old flags a (memory_of board memory.old)) }
 {
     if passes(field(word, 28, 4), flags) {
         execute(word, registers, memory, flags, a, board)
@@ -331,7 +318,7 @@ pub fn perform_at(
     ensures { result_of result registers.new (memory_of board memory.new) ≡ performs (word_at (memory_of board memory.old) a) (state registers.old flags a (memory_of board memory.old)) }
 {
     match fetch(memory, board, a) {
-        Fetched::Word(word) => perform(word, registers, memory, flags, a, board),
-        Fetched::Blank => stopped(NO_WORD, flags, a),
+        Some(word) => perform(word, registers, memory, flags, a, board),
+        None => stopped(NO_WORD, flags, a),
     }
 }

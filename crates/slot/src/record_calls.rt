@@ -9,7 +9,7 @@ use record_arrays::packing::record_words;
 use record_arrays::standing::stands_for_record;
 use record_arrays::unpacking::record_of;
 use word::reader::read;
-use writer::{NO_WORD_FOR, Written, write};
+use writer::{NO_WORD_FOR, write};
 
 #[unsafe(no_mangle)]
 pub extern "C" fn slot_word_read(word: u32, fields: &mut RecordArray)
@@ -28,10 +28,10 @@ pub extern "C" fn slot_word_write(fields: &RecordArray, word: &mut u32) -> u32
         return NO_WORD_FOR;
     }
     match write(record_of(fields)) {
-        Written::Word(w) => {
+        Ok(w) => {
             *word = w;
             0
         }
-        Written::Refused => NO_WORD_FOR,
+        Err(refusal) => refusal.into(),
     }
 }

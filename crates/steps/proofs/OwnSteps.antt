@@ -1,5 +1,6 @@
 -- What the functions of `steps` join: the parts of an own step, by class and step.
 -- Assumes nothing.
+use Rattle.std.specs.Prelude.{Option, ℕ}
 use Prim.Native.Nat.{ℕ, zero, suc, ◌+◌, ◌-◌, ◌≤◌, ◌<◌}
 use mathlib.Core.Path.{◌≡◌, refl, sym, ap, ◌∙◌}
 use mathlib.Core.Bool.{true, false}
@@ -15,7 +16,6 @@ use Rattle.word.specs.declared.Block.{Block}
 use Rattle.word.specs.declared.Multiply.{Multiply}
 use Rattle.word.specs.declared.Instruction.{Instruction}
 use Rattle.memory.specs.Memory.{Memory, read_word, write_word}
-use Rattle.registers.specs.declared.Goes.{Goes}
 use Rattle.registers.specs.Registers.{Out, out, put, arrives}
 use Rattle.processing.specs.Processing.{processed, by_register?}
 use Rattle.multiply.specs.Multiply.{rs_of, multiplied}
@@ -33,7 +33,7 @@ pub with-step : (g : List ℕ) (mem : Memory) {r s : Step} → r ≡ s → own g
 with-step g mem e = ap (λ (x : Step). own g x mem) e
 
 -- a last step
-pub last_as : (mem : Memory) {g : List ℕ} {f : ℕ} {t : Goes} {r : Step} {o : Out} → r ≡ still f (ends t) → out g f t ≡ o → own g r mem ≡ last o mem
+pub last_as : (mem : Memory) {g : List ℕ} {f : ℕ} {t : Option ℕ} {r : Step} {o : Out} → r ≡ still f (ends t) → out g f t ≡ o → own g r mem ≡ last o mem
 last_as mem {g} e q = with-step g mem e ∙ ap (λ (x : Out). last x mem) q
 
 -- ---- step 1

@@ -1,5 +1,5 @@
 -- What an instruction does in each of its own steps (paper 01, the table of "Pipeline"; multiply: 02 §1), besides the fetch.
-use Rattle.std.specs.Prelude.{ℕ, zero, suc, get_or, drop, ltb}
+use Rattle.std.specs.Prelude.{ℕ, zero, suc, get_or, drop, ltb, Option, Some, None}
 use mathlib.Core.List.{List, [], ◌∷◌, tail}
 use Rattle.bits.specs.Choice.{pick}
 use Rattle.word.specs.declared.Single.{Single}
@@ -8,8 +8,6 @@ use Rattle.word.specs.declared.Multiply.{Multiply}
 use Rattle.word.specs.declared.Instruction.{Instruction}
 use Rattle.datapath.specs.Counter.{ahead, behind}
 use Rattle.memory.specs.Memory.{Memory, read_word, write_word}
-use Rattle.registers.specs.declared.Goes.{Goes}
-use Rattle.registers.specs.declared.Goes.TheVariants.{Next, To}
 use Rattle.registers.specs.Registers.{register, Out, put, arrives}
 use Rattle.processing.specs.Processing.{processed, by_register?}
 use Rattle.multiply.specs.Multiply.{multiplied}
@@ -42,9 +40,9 @@ pub record Own : Type 0 where
 abbrev pub own : List ℕ → Step → Memory → Own
 own g s mem = record { registers = g; step = s; memory = mem }
 
-abbrev pub ends : Goes → After
-ends Next = Done Executed
-ends (To word) = Jump word
+abbrev pub ends : Option ℕ → After
+ends None = Done Executed
+ends (Some word) = Jump word
 
 -- a step that leaves nothing in the latches
 abbrev pub still : ℕ → After → Step

@@ -5,14 +5,14 @@ ghost use Rattle.steps.specs.declared.After.TheVariants.{More};
 ghost use Rattle.steps.specs.Steps.{latches, step, still, ends};
 
 use crate::{After, Ended, Latches, Phase, Step};
-use registers::{Goes, Outcome};
+use registers::Outcome;
 
-fn ends(goes: Goes) -> After
+fn ends(goes: Option<u32>) -> After
     ensures { result ≡ ends goes }
 {
     match goes {
-        Goes::Next => After::Done(Ended::Executed),
-        Goes::To(word) => After::Jump(word),
+        None => After::Done(Ended::Executed),
+        Some(word) => After::Jump(word),
     }
 }
 

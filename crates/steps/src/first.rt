@@ -16,7 +16,7 @@ use processing::{process, shifts_by_register};
 use semantics::branch::branch;
 use transfer::named::lowest;
 use transfer::{block, single};
-use word::{Block, Branch, Processing, Single, reader};
+use word::{Block, Branch, Instruction, Processing, Single, reader};
 
 // With shift by register all is done in the second step.
 fn first_processing(i: Processing, registers: &mut [u32; 15], flags: u32, pc: u32) -> Step
@@ -93,23 +93,13 @@ fn first_branch(i: Branch, registers: &mut [u32; 15], flags: u32, pc: u32) -> St
 pub fn first_step(word: u32, registers: &mut [u32; 15], flags: u32, pc: u32) -> Step
     ensures { (mem : Memory) → own registers.new result mem ≡ first_step (read_of word) registers.old flags pc mem }
 {
-    match reader::kind(word) {
-        0 => first_processing(
-            reader::processing(word, reader::processing_operand(word)),
-            registers,
-            flags,
-            pc,
-        ),
-        1 => first_single(
-            reader::single(word, reader::single_offset(word)),
-            registers,
-            flags,
-            pc,
-        ),
-        2 => first_block(reader::block(word), registers, flags, pc),
-        3 => first_branch(reader::branch(word), registers, flags, pc),
+    match reader::read(word) {
+        Instruction::Processing(i) => first_processing(i, registers, flags, pc),
+        Instruction::Single(i) => first_single(i, registers, flags, pc),
+        Instruction::Block(i) => first_block(i, registers, flags, pc),
+        Instruction::Branch(i) => first_branch(i, registers, flags, pc),
         // A multiply writes in its last step, which is never this one.
-        4 => still(flags, After::More(Phase::Later(0))),
-        _ => still(flags, After::Done(Ended::Executed)),
+        Instruction::Multiply(_) => still(flags, After::More(Phase::Later(0))),
+        Instruction::Other(_) => still(flags, After::Done(Ended::Executed)),
     }
 }

@@ -14,7 +14,7 @@ use multiply::{m_of, multiply};
 use processing::process;
 use registers::{arrive, register};
 use transfer::single;
-use word::{Multiply, Processing, Single, reader};
+use word::{Instruction, Multiply, Processing, Single, reader};
 
 fn later_processing(i: Processing, registers: &mut [u32; 15], flags: u32, pc: u32) -> Step
     ensures { (mem : Memory) → own registers.new result mem ≡ last (processed i registers.old flags pc) mem }
@@ -102,34 +102,12 @@ pub fn later_step(
 ) -> Step
     ensures { own registers.new result (memory_of board memory.new) ≡ later_step (read_of word) k registers.old flags pc l (memory_of board memory.old) }
 {
-    match reader::kind(word) {
-        0 => later_processing(
-            reader::processing(word, reader::processing_operand(word)),
-            registers,
-            flags,
-            pc,
-        ),
-        1 => later_single(
-            reader::single(word, reader::single_offset(word)),
-            k,
-            registers,
-            memory,
-            flags,
-            l,
-            board,
-        ),
-        2 => later_block(
-            reader::block(word),
-            k,
-            registers,
-            memory,
-            flags,
-            pc,
-            l,
-            board,
-        ),
-        3 => still(flags, After::Done(Ended::Executed)),
-        4 => later_multiply(reader::multiply(word), k, registers, flags),
-        _ => still(flags, After::Done(Ended::Executed)),
+    match reader::read(word) {
+        Instruction::Processing(i) => later_processing(i, registers, flags, pc),
+        Instruction::Single(i) => later_single(i, k, registers, memory, flags, l, board),
+        Instruction::Block(i) => later_block(i, k, registers, memory, flags, pc, l, board),
+        Instruction::Branch(_) => still(flags, After::Done(Ended::Executed)),
+        Instruction::Multiply(i) => later_multiply(i, k, registers, flags),
+        Instruction::Other(_) => still(flags, After::Done(Ended::Executed)),
     }
 }

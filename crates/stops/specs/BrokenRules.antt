@@ -1,14 +1,13 @@
 -- Each of the ten rules of 23 by marked words that break it, beside words of one other field that break none.
-use Rattle.std.specs.Prelude.{ℕ, ◌≡◌}
+use Rattle.std.specs.Prelude.{ℕ, ◌≡◌, Some}
 use Rattle.word.specs.Reader.{read_of}
-use Rattle.memory.specs.declared.Fetched.TheVariants.{Word}
 use Rattle.registers.specs.State.{State}
 use Rattle.stops.specs.Rules.{rule_broken}
 use Rattle.stops.specs.Stops.{stop_for}
 
 -- a word breaks rule k, and meets 23 in every state
 abbrev pub Breaks : ℕ → ℕ → Type 0
-Breaks k w = (s : State) → (rule_broken (read_of w) s ≡ k) × (stop_for (Word w) s ≡ 23)
+Breaks k w = (s : State) → (rule_broken (read_of w) s ≡ k) × (stop_for (Some w) s ≡ 23)
 
 abbrev pub BreaksNone : ℕ → Type 0
 BreaksNone w = (s : State) → rule_broken (read_of w) s ≡ 0

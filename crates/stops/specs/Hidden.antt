@@ -1,13 +1,12 @@
 -- 21 and 22, and what a failed condition hides (paper 01, "Plain machine"): marked words at 20, in every state of the registers.
-use Rattle.std.specs.Prelude.{ℕ, ◌≡◌, true, false, List, [], ◌∷◌, map}
+use Rattle.std.specs.Prelude.{ℕ, ◌≡◌, true, false, List, [], ◌∷◌, map, Some, None}
 use Rattle.bits.specs.Bits.{bit}
-use Rattle.memory.specs.declared.Fetched.TheVariants.{Word, Blank}
 use Rattle.memory.specs.Memory.{Memory}
 use Rattle.registers.specs.State.{State, state}
 use Rattle.stops.specs.Stops.{stop_for}
 
 abbrev pub at20 : List ℕ → ℕ → Memory → ℕ → ℕ
-at20 g f mem word = stop_for (Word word) (state g f 0x20 mem)
+at20 g f mem word = stop_for (Some word) (state g f 0x20 mem)
 
 -- each of these words has the stop q
 abbrev pub AllMeet : ℕ → List ℕ → ℕ → Memory → List ℕ → Type 0
@@ -23,7 +22,7 @@ never = 0xFF000000 ∷ 0xF1A00F11 ∷ 0xF5910000 ∷ 0xF8810005 ∷ 0xFA000000 �
 
 pub record Hidden : Type 0 where
   -- 21 where there is no word
-  pub no_word_there : (s : State) → stop_for Blank s ≡ 21
+  pub no_word_there : (s : State) → stop_for None s ≡ 21
   -- 22 Other: SWI; SWP and the other neighbours of multiply, with one bit of 27..22 or of 7..4 that is not multiply's; a single with bit 4 set; a
   -- coprocessor's load and operation
   pub other : (g : List ℕ) (f : ℕ) (mem : Memory)

@@ -1,8 +1,7 @@
 -- 24 and 25 of an instruction that breaks no rule, by the words that it moves (paper 01, "Numbers caused by the state").
-use Rattle.std.specs.Prelude.{ℕ, ◌+◌, ◌*◌, ◌/◌, ◌%◌, ◌^◌, ◌≤◌, ◌<◌, ◌≡◌, Bool, true, false, not, [], ◌∷◌, ◌⊎◌, ◌↔◌, replicate}
+use Rattle.std.specs.Prelude.{ℕ, ◌+◌, ◌*◌, ◌/◌, ◌%◌, ◌^◌, ◌≤◌, ◌<◌, ◌≡◌, Bool, true, false, not, [], ◌∷◌, ◌⊎◌, ◌↔◌, replicate, Some}
 use Rattle.word.specs.declared.Instruction.{Instruction}
 use Rattle.word.specs.Reader.{is_other}
-use Rattle.memory.specs.declared.Fetched.TheVariants.{Word}
 use Rattle.datapath.specs.Counter.{ahead}
 use Rattle.memory.specs.Memory.{memory_of}
 use Rattle.registers.specs.State.{State, state}
@@ -63,7 +62,7 @@ Ordered =
 
 -- a block at 20 with a value in R1
 abbrev pub block_at : ℕ → ℕ → ℕ → ℕ → ℕ
-block_at word r1 size f = stop_for (Word word) (state (0 ∷ r1 ∷ replicate 13 0) f 0x20 (memory_of (record { size = size }) []))
+block_at word r1 size f = stop_for (Some word) (state (0 ∷ r1 ∷ replicate 13 0) f 0x20 (memory_of (record { size = size }) []))
 
 -- a block that meets both stops with 24
 pub record MarkedOrder : Type 0 where

@@ -1,5 +1,5 @@
 -- Which stop is met where an instruction begins, 21 to 25 in the paper's order (paper 01, "Plain machine" and "Numbers caused by the state").
-use Rattle.std.specs.Prelude.{ℕ, ◌/◌, Bool, false, not, ◌||◌, List, [], ◌∷◌, ltb, eqb}
+use Rattle.std.specs.Prelude.{ℕ, ◌/◌, Bool, false, not, ◌||◌, List, [], ◌∷◌, ltb, eqb, Option, Some, None}
 use Rattle.bits.specs.Choice.{pick}
 use Rattle.bits.specs.Bits.{field}
 use Rattle.word.specs.declared.Single.{Single}
@@ -8,8 +8,6 @@ use Rattle.word.specs.Reader.{read_of, is_other}
 use Rattle.condition.specs.Condition.{passes}
 use Rattle.datapath.specs.Counter.{ahead}
 use Rattle.memory.specs.declared.Board.{Board}
-use Rattle.memory.specs.declared.Fetched.{Fetched}
-use Rattle.memory.specs.declared.Fetched.TheVariants.{Word, Blank}
 use Rattle.memory.specs.Memory.{place, limit}
 use Rattle.registers.specs.State.{State}
 use Rattle.stops.specs.Numbers.{no_word, other_word, broken_rule, outside_memory, fetched_word}
@@ -22,9 +20,9 @@ pub data Due : Type 0 where
   skipped : Due
   executes : Instruction → Due
 
-unfoldable pub due : Fetched → ℕ → Due
-due Blank f = no_word_there
-due (Word w) f = pick (passes (field w 28 4) f) (executes (read_of w)) skipped
+unfoldable pub due : Option ℕ → ℕ → Due
+due None f = no_word_there
+due (Some w) f = pick (passes (field w 28 4) f) (executes (read_of w)) skipped
 
 -- an address at which nothing answers
 abbrev pub outside : List ℕ → Board → Bool
@@ -62,5 +60,5 @@ stop_due no_word_there s = no_word
 stop_due skipped s = 0
 stop_due (executes i) s = stop_of i s
 
-unfoldable pub stop_for : Fetched → State → ℕ
+unfoldable pub stop_for : Option ℕ → State → ℕ
 stop_for x s = stop_due (due x s.status) s

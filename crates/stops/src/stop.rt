@@ -15,11 +15,11 @@ use crate::{BROKEN_RULE, FETCHED_WORD, NO_WORD, OTHER_WORD, OUTSIDE_MEMORY};
 use bits::field;
 use condition::passes;
 use datapath::counter::ahead;
-use memory::{Board, Fetched};
+use memory::Board;
 use transfer::block::lowest_address;
 use transfer::named::count;
 use transfer::single::address;
-use word::{Block, Multiply, Processing, Single, reader};
+use word::{Block, Instruction, Multiply, Processing, Single, reader};
 
 // A word at A+4 or A+8 is among them.
 fn fetched_ahead(first: u32, n: u32, a: u32, board: Board) -> bool
@@ -98,32 +98,21 @@ pub fn multiply_stop(i: Multiply) -> u32
 fn word_stop(word: u32, registers: &[u32; 15], flags: u32, a: u32, board: Board) -> u32
     ensures { (bytes : List ℕ) → result ≡ stop_of (read_of word) (state registers.now flags a (memory_of board bytes)) }
 {
-    match reader::kind(word) {
-        0 => processing_stop(
-            reader::processing(word, reader::processing_operand(word)),
-            registers,
-            flags,
-            a,
-        ),
-        1 => single_stop(
-            reader::single(word, reader::single_offset(word)),
-            registers,
-            flags,
-            a,
-            board,
-        ),
-        2 => block_stop(reader::block(word), registers, flags, a, board),
-        3 => 0,
-        4 => multiply_stop(reader::multiply(word)),
-        _ => OTHER_WORD,
+    match reader::read(word) {
+        Instruction::Processing(i) => processing_stop(i, registers, flags, a),
+        Instruction::Single(i) => single_stop(i, registers, flags, a, board),
+        Instruction::Block(i) => block_stop(i, registers, flags, a, board),
+        Instruction::Branch(_) => 0,
+        Instruction::Multiply(i) => multiply_stop(i),
+        Instruction::Other(_) => OTHER_WORD,
     }
 }
 
 // The stop that what was fetched at `a` meets, or 0.
-pub fn stop_for(x: Fetched, registers: &[u32; 15], flags: u32, a: u32, board: Board) -> u32
+pub fn stop_for(x: Option<u32>, registers: &[u32; 15], flags: u32, a: u32, board: Board) -> u32
     ensures { (bytes : List ℕ) → result ≡ stop_for x (state registers.now flags a (memory_of board bytes)) }
 {
-    let Fetched::Word(word) = x else {
+    let Some(word) = x else {
         return NO_WORD;
     };
     if passes(field(word, 28, 4), flags) {

@@ -1,9 +1,9 @@
 -- A block load has each of its named registers from the word that is its own, lowest first from its lowest address on.
 -- Assumes nothing.
+use Rattle.std.specs.Prelude.{Some, None}
 use Rattle.std.proofs.Common.{◌≡◌, ℕ, zero, suc, ◌+◌, ◌*◌, ◌^◌, ◌<◌, Bool, true, false, ltb, ◌≢◌, List, [], ◌∷◌, length, get_or, set, sym, refl, ap, ◌∙◌, mod-eq_of_lt, arith, get_or-set_other, get_or-set_same, lt-ltb}
 use Rattle.bits.specs.Choice.{pick}
 use Rattle.memory.specs.Memory.{Memory, read_word}
-use Rattle.registers.specs.declared.Goes.TheVariants.{Next, To}
 use Rattle.registers.specs.Registers.{put, out, arrives}
 use Rattle.transfer.specs.Block.{next, loads}
 use Rattle.transfer.proofs.NamedRegisters.{Rising}
@@ -19,7 +19,7 @@ module _ (f : ℕ) (mem : Memory) where
   loads-kept [] g a r u = refl
   loads-kept (x ∷ []) g a r u = go (ltb x 15)
     where
-      go : (t : Bool) → get_or (pick t (out (set g x (read_word mem a)) f Next) (out g f (To (read_word mem a)))).registers r 0 ≡ get_or g r 0
+      go : (t : Bool) → get_or (pick t (out (set g x (read_word mem a)) f None) (out g f (Some (read_word mem a)))).registers r 0 ≡ get_or g r 0
       go true = get_or-set_other g x r (read_word mem a) 0 u.0
       go false = refl
   loads-kept (x ∷ (y ∷ ys)) g a r u =
@@ -55,12 +55,12 @@ module _ (f : ℕ) (mem : Memory) where
   loads-flags [] g a = refl
   loads-flags (x ∷ []) g a = go (ltb x 15)
     where
-      go : (t : Bool) → (pick t (out (set g x (read_word mem a)) f Next) (out g f (To (read_word mem a)))).flags ≡ f
+      go : (t : Bool) → (pick t (out (set g x (read_word mem a)) f None) (out g f (Some (read_word mem a)))).flags ≡ f
       go true = refl
       go false = refl
   loads-flags (x ∷ (y ∷ ys)) g a = loads-flags (y ∷ ys) (put g x (read_word mem a)) (next a)
 
-  pub goes_on : (xs g : List ℕ) (a n : ℕ) → Rising 16 n xs → Absent 15 xs → (loads xs g f a mem).goes ≡ Next
+  pub goes_on : (xs g : List ℕ) (a n : ℕ) → Rising 16 n xs → Absent 15 xs → (loads xs g f a mem).goes ≡ None
   unfolding loads arrives
   goes_on [] g a n u away = refl
   goes_on (x ∷ []) g a n u away =
@@ -70,7 +70,7 @@ module _ (f : ℕ) (mem : Memory) where
   goes_on (x ∷ (y ∷ ys)) g a n u away = goes_on (y ∷ ys) (put g x (read_word mem a)) (next a) (suc x) u.2 away.1
 
   pub goes_to : (xs g : List ℕ) (a n k : ℕ) → Rising 16 n xs → At 15 k xs → a + 4 * length xs < 2 ^ 32
-      → (loads xs g f a mem).goes ≡ To (read_word mem (a + 4 * k))
+      → (loads xs g f a mem).goes ≡ Some (read_word mem (a + 4 * k))
   unfolding loads arrives
   goes_to [] g a n k u at w = absurd (omega (arith, at.0))
   goes_to (x ∷ []) g a n zero u at w =
@@ -82,6 +82,6 @@ module _ (f : ℕ) (mem : Memory) where
       let e : next a ≡ a + 4 = mod-eq_of_lt (omega arith) in
       let d : a + 4 * suc k ≡ a + 4 + 4 * k = omega arith in
       let put-g = put g x (read_word mem a) in
-      let rest : (loads (y ∷ ys) put-g f (a + 4) mem).goes ≡ To (read_word mem (a + 4 + 4 * k)) =
+      let rest : (loads (y ∷ ys) put-g f (a + 4) mem).goes ≡ Some (read_word mem (a + 4 + 4 * k)) =
       goes_to (y ∷ ys) put-g (a + 4) (suc x) k u.2 (omega (arith, at.0), at.1) (omega arith) in
-      ap (λ (b : ℕ). (loads (y ∷ ys) put-g f b mem).goes) e ∙ rest ∙ ap (λ (b : ℕ). To (read_word mem b)) (sym d)
+      ap (λ (b : ℕ). (loads (y ∷ ys) put-g f b mem).goes) e ∙ rest ∙ ap (λ (b : ℕ). Some (read_word mem b)) (sym d)

@@ -246,3 +246,11 @@ drop-tail (suc k) xs h = let e : suc k - 1 ≡ k = omega arith in rw e (go xs)
     go : (xs : List ℕ) → drop k (tail xs) ≡ drop (suc k) xs
     go [] = drop-nil k
     go (x ∷ xs) = refl
+
+-- where the search for the lowest finds none, none is named
+pub none-named : (list : ℕ) → get_or (named list) 0 16 ≡ 16 → named list ≡ []
+none-named list e = go (named list) (named-rising list) e
+  where
+    go : (xs : List ℕ) → Rising 16 0 xs → get_or xs 0 16 ≡ 16 → xs ≡ []
+    go [] r e = refl
+    go (x ∷ xs) r e = let h = rising-lt 16 0 x xs r in let f : ⊥ = omega (arith, h, e) in absurd f

@@ -1,11 +1,10 @@
 -- Block transfers (paper 01, "Block").
-use Rattle.std.specs.Prelude.{ℕ, zero, suc, ◌+◌, ◌*◌, ◌/◌, ◌%◌, ◌^◌, Bool, List, [], ◌∷◌, length}
+use Rattle.std.specs.Prelude.{ℕ, zero, suc, ◌+◌, ◌*◌, ◌/◌, ◌%◌, ◌^◌, Bool, List, [], ◌∷◌, length, None}
 use Rattle.bits.specs.Choice.{pick}
 use Rattle.bits.specs.Bits.{bit}
 use Rattle.word.specs.declared.Block.{Block}
 use Rattle.memory.specs.Bytes.{word_base}
 use Rattle.memory.specs.Memory.{Memory, read_word, write_word}
-use Rattle.registers.specs.declared.Goes.TheVariants.{Next}
 use Rattle.registers.specs.Registers.{register, put, Out, out, arrives}
 use Rattle.transfer.specs.Single.{moved, stored_value}
 
@@ -52,7 +51,7 @@ next address = (address + 4) % 2 ^ 32
 
 -- the named registers loaded from an address on; R15, the last if named, goes to the counter. A loaded base wins
 unfoldable pub loads : List ℕ → List ℕ → ℕ → ℕ → Memory → Out
-loads [] g f address mem = out g f Next
+loads [] g f address mem = out g f None
 loads (x ∷ []) g f address mem = arrives g f x (read_word mem address)
 loads (x ∷ (y ∷ ys)) g f address mem = loads (y ∷ ys) (put g x (read_word mem address)) f (next address) mem
 

@@ -1,12 +1,11 @@
 -- Block transfers by where each mode begins and ends, and by the word of each register (paper 01, "Block").
-use Rattle.std.specs.Prelude.{◌≡◌, ℕ, ◌+◌, ◌-◌, ◌*◌, ◌/◌, ◌%◌, ◌^◌, ◌<◌, ◌≤◌, true, false, ◌≢◌, ◌⊎◌, List, length, count_ones, slice_index}
+use Rattle.std.specs.Prelude.{◌≡◌, ℕ, ◌+◌, ◌-◌, ◌*◌, ◌/◌, ◌%◌, ◌^◌, ◌<◌, ◌≤◌, true, false, ◌≢◌, ◌⊎◌, List, length, count_ones, slice_index, Some, None}
 use Rattle.bits.specs.Choice.{pick}
 use Rattle.bits.specs.Bits.{bit}
 use Rattle.word.specs.declared.Block.{Block}
 use Rattle.datapath.specs.Counter.{r15_word}
 use Rattle.memory.specs.Bytes.{word_base}
 use Rattle.memory.specs.Memory.{Memory, read_word}
-use Rattle.registers.specs.declared.Goes.TheVariants.{Next, To}
 use Rattle.registers.specs.Registers.{register, Out}
 use Rattle.transfer.specs.Block.{named, base_of, changed_base, lowest_address, with_base, loads, stores_all}
 
@@ -81,8 +80,8 @@ pub record BlockLoaded (i : Block) (g : List ℕ) (f : ℕ) (mem : Memory) : Typ
   -- the other registers are kept
   pub kept : (x : ℕ) → x < 15 → bit i.list x ≡ false → x ≢ i.rn → slice_index (after_load i g f mem).registers x ≡ slice_index g x
   -- a load to R15 sets the counter and keeps the flags
-  pub counter : bit i.list 15 ≡ true → (after_load i g f mem).goes ≡ To (read_word mem (place_of i g 15))
-  pub counter_kept : bit i.list 15 ≡ false → (after_load i g f mem).goes ≡ Next
+  pub counter : bit i.list 15 ≡ true → (after_load i g f mem).goes ≡ Some (read_word mem (place_of i g 15))
+  pub counter_kept : bit i.list 15 ≡ false → (after_load i g f mem).goes ≡ None
   pub flags : (after_load i g f mem).flags ≡ f
 
 -- of every block: what is moved, with a base that is not R15

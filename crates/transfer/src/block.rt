@@ -5,12 +5,13 @@ ghost use Rattle.memory.specs.Memory.{memory_of};
 ghost use Rattle.registers.specs.Registers.{out};
 ghost use Rattle.transfer.specs.Block.{named, base_of, changed_base, above, lowest_address, with_base, next, loads, stores, stores_all};
 
+use crate::named::NamedRegisters;
 use crate::{named, single};
 use memory;
 use memory::Board;
 use memory::bytes::word_base;
 use registers;
-use registers::{Goes, Outcome};
+use registers::Outcome;
 use word::Block;
 
 // The address of the next word.
@@ -84,31 +85,13 @@ pub fn load(
 ) -> Outcome
     ensures { out registers.new result.flags result.goes ≡ loads (named list) registers.old flags address (memory_of board memory.now) }
 {
-    let mut left = list;
-    let mut n = named::count(list);
+    let mut outcome = Outcome { flags, goes: None };
     let mut at = address;
-    while 1 < n {
-        registers::put(
-            registers,
-            named::lowest(left),
-            memory::read_word(memory, board, at),
-        );
-        left = named::rest(left);
+    for n in NamedRegisters(list) {
+        outcome = registers::arrive(registers, flags, n, memory::read_word(memory, board, at));
         at = next(at);
-        n -= 1;
     }
-    if n == 0 {
-        return Outcome {
-            flags,
-            goes: Goes::Next,
-        };
-    }
-    registers::arrive(
-        registers,
-        flags,
-        named::lowest(left),
-        memory::read_word(memory, board, at),
-    )
+    outcome
 }
 
 // The named registers stored, lowest first.
@@ -123,19 +106,15 @@ pub fn store(
 )
     ensures { memory_of board memory.new ≡ stores (named list) registers.now flags a12 address (memory_of board memory.old) }
 {
-    let mut left = list;
-    let mut n = named::count(list);
     let mut at = address;
-    while 0 < n {
+    for n in NamedRegisters(list) {
         memory::write_word(
             memory,
             board,
             at,
-            single::stored_value(registers, named::lowest(left), flags, a12),
+            single::stored_value(registers, n, flags, a12),
         );
-        left = named::rest(left);
         at = next(at);
-        n -= 1;
     }
 }
 

@@ -1,14 +1,24 @@
 // Single transfers (paper 01, "Single"). pc is what R15 reads as, A+8.
 ghost use Rattle.std.specs.Prelude.{◌≡◌};
+ghost use Rattle.datapath.specs.Alu.{carry_of};
+ghost use Rattle.datapath.specs.Shifter.{by_amount};
 ghost use Rattle.memory.specs.Memory.{memory_of};
 ghost use Rattle.transfer.specs.Single.{offset_of, moved, changed_base, address_of, writes_base, with_base, loaded_value, stored_value, stored_to};
 
 use crate::Reach;
-use datapath::{alu, counter, shifter, value};
+use datapath::{alu, counter, shifter};
 use memory;
 use memory::Board;
 use registers;
 use word::{Operand, Single};
+
+// Rm shifted by an amount in the word. Most offsets are twelve bits: this one stands out of the way of those.
+#[inline(never)]
+fn shifted_offset(kind: u32, v: u32, amount: u32, flags: u32) -> u32
+    ensures { result ≡ (by_amount kind v amount (carry_of flags)).value }
+{
+    shifter::by_amount(kind, v, amount, alu::carry_of(flags)).value
+}
 
 // Twelve bits, or Rm shifted by an amount in the word.
 pub fn offset(o: Operand, registers: &[u32; 15], flags: u32) -> u32
@@ -17,12 +27,7 @@ pub fn offset(o: Operand, registers: &[u32; 15], flags: u32) -> u32
     match o {
         Operand::Constant { rotate, value } => std::num::wrapping_add_u32(rotate << 8, value),
         Operand::ShiftByAmount { rm, shift, amount } => {
-            value::by_amount(
-                shift,
-                registers::register(registers, rm, 0),
-                amount,
-                alu::carry_of(flags),
-            )
+            shifted_offset(shift, registers::register(registers, rm, 0), amount, flags)
         }
         Operand::ShiftByRegister { .. } => 0,
     }

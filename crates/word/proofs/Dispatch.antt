@@ -3,15 +3,13 @@
 use Prim.Native.Nat.{ℕ, ◌+◌, ◌*◌, ◌/◌, ◌%◌, ◌^◌}
 use mathlib.Core.Path.{◌≡◌, refl, sym, ap, ◌∙◌}
 use mathlib.Core.Bool.{Bool, true, false}
-use mathlib.Core.Logic.{◌≢◌}
 use native.Mathlib.Omega.{arith}
-use lib.Dec.{eqb}
 use lib.Pow.{shr-shr}
-use borrow.Author.Tests.{ne_eqb}
 use Rattle.bits.specs.Choice.{pick}
 use Rattle.bits.specs.Bits.{field, bit, num}
 use Rattle.bits.proofs.Fields.{num-bit}
 use Rattle.word.specs.declared.Instruction.{Instruction}
+use Rattle.word.specs.declared.Class.{Class}
 use Rattle.word.specs.Reader.{constant_of, by_amount_of, by_register_of, processing_operand_of, single_offset_of, processing_of, single_of, block_of, branch_of, multiply_of, is_multiply, classed, kind_by, kind_in, read_of}
 
 -- bits 27..25 as a number
@@ -34,17 +32,17 @@ class-bits : (w : ℕ) → field w 25 3 ≡ 4 * num (bit w 27) + (2 * num (bit w
 class-bits w = rw (num-bit w 27, num-bit w 26, num-bit w 25) (class-fields w)
 
 -- the record of a kind, with bits 25 and 4 for what its operand or offset is
-abbrev record_by : ℕ → Bool → Bool → ℕ → Instruction
-record_by w bit25 bit4 kind =
-    pick (eqb kind 0) (Instruction.Processing (processing_of w (pick bit25 (constant_of w) (pick bit4 (by_register_of w) (by_amount_of w)))))
-    (pick (eqb kind 1) (Instruction.Single (single_of w (pick bit25 (by_amount_of w) (constant_of w))))
-    (pick (eqb kind 2) (Instruction.Block (block_of w))
-    (pick (eqb kind 3) (Instruction.Branch (branch_of w))
-    (pick (eqb kind 4) (Instruction.Multiply (multiply_of w))
-    (Instruction.Other w)))))
+abbrev record_by : ℕ → Bool → Bool → Class → Instruction
+record_by w bit25 bit4 Class.Processing =
+    Instruction.Processing (processing_of w (pick bit25 (constant_of w) (pick bit4 (by_register_of w) (by_amount_of w))))
+record_by w bit25 bit4 Class.Single = Instruction.Single (single_of w (pick bit25 (by_amount_of w) (constant_of w)))
+record_by w bit25 bit4 Class.Block = Instruction.Block (block_of w)
+record_by w bit25 bit4 Class.Branch = Instruction.Branch (branch_of w)
+record_by w bit25 bit4 Class.Multiply = Instruction.Multiply (multiply_of w)
+record_by w bit25 bit4 Class.Other = Instruction.Other w
 
 -- the extension space
-extended : (w : ℕ) (m : Bool) → pick m (Instruction.Multiply (multiply_of w)) (Instruction.Other w) ≡ record_by w false true (pick m 4 5)
+extended : (w : ℕ) (m : Bool) → pick m (Instruction.Multiply (multiply_of w)) (Instruction.Other w) ≡ record_by w false true (pick m Class.Multiply Class.Other)
 extended w true = refl
 extended w false = refl
 
@@ -68,25 +66,25 @@ by_kind : (w : ℕ) → read_of w ≡ record_by w (bit w 25) (bit w 4) (kind_in 
 unfolding read_of
 by_kind w = rw (class-bits w) (by-class w (bit w 27) (bit w 26) (bit w 25) (bit w 4) _)
 
--- so what a word of a kind reads as; the kind is a number that a call gave
-module _ (w : ℕ) {k : ℕ} (e : k ≡ kind_in w) where
-  is : (n : ℕ) → k ≡ n → read_of w ≡ record_by w (bit w 25) (bit w 4) n
-  is n z = by_kind w ∙ ap (record_by w (bit w 25) (bit w 4)) (sym e ∙ z)
+-- so what a word of a kind reads as
+module _ (w : ℕ) where
+  reads : (k : Class) → k ≡ kind_in w → record_by w (bit w 25) (bit w 4) k ≡ read_of w
+  reads k e = sym (by_kind w ∙ ap (record_by w (bit w 25) (bit w 4)) (sym e))
 
-  pub reads-processing : k ≡ 0 → Instruction.Processing (processing_of w (processing_operand_of w)) ≡ read_of w
-  reads-processing z = sym (is 0 z)
+  pub reads-processing : Class.Processing ≡ kind_in w → Instruction.Processing (processing_of w (processing_operand_of w)) ≡ read_of w
+  reads-processing e = reads Class.Processing e
 
-  pub reads-single : k ≡ 1 → Instruction.Single (single_of w (single_offset_of w)) ≡ read_of w
-  reads-single z = sym (is 1 z)
+  pub reads-single : Class.Single ≡ kind_in w → Instruction.Single (single_of w (single_offset_of w)) ≡ read_of w
+  reads-single e = reads Class.Single e
 
-  pub reads-block : k ≡ 2 → Instruction.Block (block_of w) ≡ read_of w
-  reads-block z = sym (is 2 z)
+  pub reads-block : Class.Block ≡ kind_in w → Instruction.Block (block_of w) ≡ read_of w
+  reads-block e = reads Class.Block e
 
-  pub reads-branch : k ≡ 3 → Instruction.Branch (branch_of w) ≡ read_of w
-  reads-branch z = sym (is 3 z)
+  pub reads-branch : Class.Branch ≡ kind_in w → Instruction.Branch (branch_of w) ≡ read_of w
+  reads-branch e = reads Class.Branch e
 
-  pub reads-multiply : k ≡ 4 → Instruction.Multiply (multiply_of w) ≡ read_of w
-  reads-multiply z = sym (is 4 z)
+  pub reads-multiply : Class.Multiply ≡ kind_in w → Instruction.Multiply (multiply_of w) ≡ read_of w
+  reads-multiply e = reads Class.Multiply e
 
-  pub reads_other : k ≢ 0 → k ≢ 1 → k ≢ 2 → k ≢ 3 → k ≢ 4 → Instruction.Other w ≡ read_of w
-  reads_other a b c d m = sym (by_kind w ∙ rw (sym e, ne_eqb k 0 a, ne_eqb k 1 b, ne_eqb k 2 c, ne_eqb k 3 d, ne_eqb k 4 m))
+  pub reads_other : Class.Other ≡ kind_in w → Instruction.Other w ≡ read_of w
+  reads_other e = reads Class.Other e

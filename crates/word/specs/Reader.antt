@@ -10,6 +10,7 @@ use Rattle.word.specs.declared.Block.{Block}
 use Rattle.word.specs.declared.Branch.{Branch}
 use Rattle.word.specs.declared.Multiply.{Multiply}
 use Rattle.word.specs.declared.Instruction.{Instruction}
+use Rattle.word.specs.declared.Class.{Class}
 
 -- bits 11..0 as one of the three kinds: a constant's rotation r and value; Rm, shift and amount; Rm, shift and Rs
 abbrev pub constant_of : ℕ → Operand
@@ -104,15 +105,15 @@ classed w class bit4 bit7 =
 unfoldable pub read_of : ℕ → Instruction
 read_of w = classed w (field w 25 3) (bit w 4) (bit w 7)
 
--- the class of a word as a number, which engines go by: 0 processing, 1 single, 2 block, 3 branch, 4 multiply, 5 Other
-abbrev pub kind_by : Bool → Bool → Bool → Bool → Bool → Bool → ℕ
+-- the class of a word, by its bits 27..25, 4 and 7, and by whether it is a multiply
+abbrev pub kind_by : Bool → Bool → Bool → Bool → Bool → Bool → Class
 kind_by bit27 bit26 bit25 bit4 bit7 multiply =
     pick bit27
-    (pick bit26 5 (pick bit25 3 2))
-    (pick bit26 (pick (bit25 && bit4) 5 1)
-    (pick (not bit25 && (bit4 && bit7)) (pick multiply 4 5) 0))
+    (pick bit26 Class.Other (pick bit25 Class.Branch Class.Block))
+    (pick bit26 (pick (bit25 && bit4) Class.Other Class.Single)
+    (pick (not bit25 && (bit4 && bit7)) (pick multiply Class.Multiply Class.Other) Class.Processing))
 
-abbrev pub kind_in : ℕ → ℕ
+abbrev pub kind_in : ℕ → Class
 kind_in w = kind_by (bit w 27) (bit w 26) (bit w 25) (bit w 4) (bit w 7) (is_multiply w)
 
 abbrev pub is_other : Instruction → Bool

@@ -4,7 +4,7 @@
 pub mod reader;
 
 // The second operand of a data processing instruction, and the offset of a single transfer.
-#[derive(Clone, Copy)]
+#[derive(Clone, Copy, PartialEq, Eq, Debug)]
 pub enum Operand {
     // An eight-bit value rotated right by twice `rotate`. As an offset these are its twelve bits, unrotated.
     Constant { rotate: u32, value: u32 },
@@ -13,7 +13,7 @@ pub enum Operand {
     ShiftByRegister { rm: u32, shift: u32, rs: u32 },
 }
 
-#[derive(Clone, Copy)]
+#[derive(Clone, Copy, PartialEq, Eq, Debug)]
 pub struct Processing {
     pub condition: u32,
     pub operation: u32,
@@ -23,7 +23,7 @@ pub struct Processing {
     pub operand: Operand,
 }
 
-#[derive(Clone, Copy)]
+#[derive(Clone, Copy, PartialEq, Eq, Debug)]
 pub struct Single {
     pub condition: u32,
     pub p: bool,
@@ -36,7 +36,7 @@ pub struct Single {
     pub offset: Operand,
 }
 
-#[derive(Clone, Copy)]
+#[derive(Clone, Copy, PartialEq, Eq, Debug)]
 pub struct Block {
     pub condition: u32,
     pub p: bool,
@@ -48,7 +48,7 @@ pub struct Block {
     pub list: u32,
 }
 
-#[derive(Clone, Copy)]
+#[derive(Clone, Copy, PartialEq, Eq, Debug)]
 pub struct Branch {
     pub condition: u32,
     pub link: bool,
@@ -56,7 +56,7 @@ pub struct Branch {
 }
 
 // Paper 02 §1. MUL, without accumulate, keeps its unused Rn.
-#[derive(Clone, Copy)]
+#[derive(Clone, Copy, PartialEq, Eq, Debug)]
 pub struct Multiply {
     pub condition: u32,
     pub accumulate: bool,
@@ -67,8 +67,19 @@ pub struct Multiply {
     pub rm: u32,
 }
 
+// The classes of instructions; Other is what no class has.
+#[derive(Clone, Copy, PartialEq, Eq, Debug)]
+pub enum Class {
+    Processing,
+    Single,
+    Block,
+    Branch,
+    Multiply,
+    Other,
+}
+
 // One case of data for each class. `Other` carries its word, and every class keeps every bit.
-#[derive(Clone, Copy)]
+#[derive(Clone, Copy, PartialEq, Eq, Debug)]
 pub enum Instruction {
     Processing(Processing),
     Single(Single),

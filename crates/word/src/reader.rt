@@ -1,70 +1,50 @@
-// The reader. An engine goes by the kind of a word and calls the reader of that class alone: a record of any class would go through memory.
+// The reader. `read` is inlined where an engine matches on it, so that no record of all classes goes through memory.
 ghost use Rattle.std.specs.Prelude.{◌≡◌};
-ghost use Rattle.bits.specs.Choice.{pick};
-ghost use Rattle.word.specs.Reader.{constant_of, by_amount_of, by_register_of, processing_operand_of, single_offset_of, processing_of, single_of, block_of, branch_of, multiply_of, is_multiply, kind_by, kind_in, read_of, is_other};
+ghost use Rattle.word.specs.Reader.{constant_of, by_amount_of, by_register_of, processing_operand_of, single_offset_of, processing_of, single_of, block_of, branch_of, multiply_of, is_multiply, kind_in, read_of, is_other};
 
-use crate::{Block, Branch, Instruction, Multiply, Operand, Processing, Single};
+use crate::{Block, Branch, Class, Instruction, Multiply, Operand, Processing, Single};
 use bits::{bit, field};
 
+#[inline(always)]
 pub fn read(word: u32) -> Instruction
     ensures { result ≡ read_of word }
 {
     match kind(word) {
-        0 => Instruction::Processing(processing(word, processing_operand(word))),
-        1 => Instruction::Single(single(word, single_offset(word))),
-        2 => Instruction::Block(block(word)),
-        3 => Instruction::Branch(branch(word)),
-        4 => Instruction::Multiply(multiply(word)),
-        _ => Instruction::Other(word),
+        Class::Processing => Instruction::Processing(processing(word, processing_operand(word))),
+        Class::Single => Instruction::Single(single(word, single_offset(word))),
+        Class::Block => Instruction::Block(block(word)),
+        Class::Branch => Instruction::Branch(branch(word)),
+        Class::Multiply => Instruction::Multiply(multiply(word)),
+        Class::Other => Instruction::Other(word),
     }
 }
 
-// The class of a word as a number: 0 processing, 1 single, 2 block, 3 branch, 4 multiply, else Other.
-pub fn kind(word: u32) -> u32
+// The class of a word by its bits 27..25.
+pub fn kind(word: u32) -> Class
     ensures { result ≡ kind_in word }
 {
-    let bit4 = bit(word, 4);
-    let bit7 = bit(word, 7);
-    kind_by(
-        word,
-        bit(word, 27),
-        bit(word, 26),
-        bit(word, 25),
-        bit4,
-        bit7,
-    )
-}
-
-// With bits 27..25 = 000 and bits 7 and 4 set a word is of the extension space.
-fn kind_by(word: u32, bit27: bool, bit26: bool, bit25: bool, bit4: bool, bit7: bool) -> u32
-    ensures { result ≡ kind_by bit27 bit26 bit25 bit4 bit7 (is_multiply word) }
-{
-    if bit27 {
-        if bit26 { 5 } else { if bit25 { 3 } else { 2 } }
-    } else {
-        if bit26 {
-            if bit25 & bit4 { 5 } else { 1 }
-        } else {
-            if !bit25 & (bit4 & bit7) {
-                extended_kind(word)
+    match (bit(word, 27), bit(word, 26), bit(word, 25)) {
+        (true, true, _) => Class::Other,
+        (true, false, true) => Class::Branch,
+        (true, false, false) => Class::Block,
+        (false, true, true) if bit(word, 4) => Class::Other,
+        (false, true, _) => Class::Single,
+        // The extension space: multiply and swap stand there, and this core has no swap.
+        (false, false, false) if bit(word, 4) && bit(word, 7) => {
+            if is_multiply(word) {
+                Class::Multiply
             } else {
-                0
+                Class::Other
             }
         }
+        (false, false, _) => Class::Processing,
     }
 }
 
 fn is_multiply(word: u32) -> bool
     ensures { result ≡ is_multiply word }
 {
-    (field(word, 22, 6) == 0) & (field(word, 4, 4) == 9)
-}
-
-// Multiply and swap stand in the extension space: this core has no swap.
-fn extended_kind(word: u32) -> u32
-    ensures { result ≡ pick (is_multiply word) 4 5 }
-{
-    if is_multiply(word) { 4 } else { 5 }
+    field(word, 22, 6) == 0b000000 && field(word, 4, 4) == 0b1001
 }
 
 pub fn constant(word: u32) -> Operand
@@ -100,13 +80,10 @@ pub fn by_register(word: u32) -> Operand
 pub fn processing_operand(word: u32) -> Operand
     ensures { result ≡ processing_operand_of word }
 {
-    if bit(word, 25) {
-        return constant(word);
-    }
-    if bit(word, 4) {
-        by_register(word)
-    } else {
-        by_amount(word)
+    match (bit(word, 25), bit(word, 4)) {
+        (true, _) => constant(word),
+        (false, true) => by_register(word),
+        (false, false) => by_amount(word),
     }
 }
 
@@ -192,12 +169,5 @@ pub fn multiply(word: u32) -> Multiply
 pub fn is_other(i: Instruction) -> bool
     ensures { result ≡ is_other i }
 {
-    match i {
-        Instruction::Processing(_) => false,
-        Instruction::Single(_) => false,
-        Instruction::Block(_) => false,
-        Instruction::Branch(_) => false,
-        Instruction::Multiply(_) => false,
-        Instruction::Other(_) => true,
-    }
+    matches!(i, Instruction::Other(_))
 }

@@ -5,6 +5,7 @@ use mathlib.Core.Bool.{true}
 use mathlib.Core.Logic.{◌↔◌, ⊎_elim}
 use Prim.Native.Nat.{ℕ, ◌^◌, ◌<◌}
 use native.Mathlib.Omega.{arith}
+use Rattle.std.specs.Prelude.{Result, Ok, Err}
 use Rattle.word.specs.Reader.{read_of, is_other}
 use Rattle.word.specs.Layout.{is_offset, has_kind, table_of, Has, Fits}
 use Rattle.word.specs.declared.Operand.{Operand}
@@ -15,8 +16,7 @@ use Rattle.writer.specs.Fields.{packed}
 use Rattle.writer.specs.Writer.{written, answer_of, write_of, fields_of, class_has, single_has}
 use Rattle.writer.specs.Term2.{Term2}
 use Rattle.writer.specs.Layout.{Writes}
-use Rattle.writer.specs.declared.Written.{Written}
-use Rattle.writer.specs.declared.Written.TheVariants.{Word, Refused}
+use Rattle.writer.specs.declared.NoWord.{NoWord}
 use Rattle.writer.proofs.Fields.{fill, Reads, allowed, packed-iff}
 
 -- a record's fields come to 32 bits, and say of a word what its table says
@@ -42,7 +42,7 @@ laid w (Instruction.Multiply i) = (refl, omega arith)
 laid w (Instruction.Other word) = (refl, omega arith)
 
 -- a record is written as the words of 32 bits that fit its table
-pub written_as : (w : ℕ) (i : Instruction) → class_has i ≡ true → w < 2 ^ 32 → Has w (table_of i) → written i ≡ Word w
+pub written_as : (w : ℕ) (i : Instruction) → class_has i ≡ true → w < 2 ^ 32 → Has w (table_of i) → written i ≡ Ok w
 unfolding written
 written_as w i c h t = rw c ((packed-iff (fields_of i) w (laid w i).0).1 (h, (laid w i).1.1 t))
 
@@ -60,10 +60,10 @@ has-kind (Instruction.Branch i) c = refl
 has-kind (Instruction.Multiply i) c = refl
 has-kind (Instruction.Other word) c = refl
 
-fits : (w : ℕ) (i : Instruction) → written i ≡ Word w → (w < 2 ^ 32) × Fits w i × (class_has i ≡ true)
+fits : (w : ℕ) (i : Instruction) → written i ≡ Ok w → (w < 2 ^ 32) × Fits w i × (class_has i ≡ true)
 unfolding written
 fits w i e =
-    let a = allowed (class_has i) (packed (Word 0) (fields_of i)) w e in
+    let a = allowed (class_has i) (packed (Ok 0) (fields_of i)) w e in
     let p = (packed-iff (fields_of i) w (laid w i).0).0 a.1 in
     (p.0, (has-kind i a.0, (laid w i).1.0 p.1), a.0)
 
@@ -79,22 +79,22 @@ module _ (w : ℕ) (h : w < 2 ^ 32) where
   read_has (Instruction.Other v) r f =
       let e : v ≡ w = sym f.1.0 ∙ field-whole w h in ap is_other (ap read_of e ∙ r)
 
-  written_back : written (read_of w) ≡ Word w
+  written_back : written (read_of w) ≡ Ok w
   written_back =
       let f = layout.reads w h in written_as w (read_of w) (read_has (read_of w) refl f) h f.1
 
 -- ---- an accepted record is read as it was written
 
-read_back : (w : ℕ) (i : Instruction) → written i ≡ Word w → read_of w ≡ i
+read_back : (w : ℕ) (i : Instruction) → written i ≡ Ok w → read_of w ≡ i
 read_back w i e =
     let f = fits w i e in
     ⊎_elim (λ r. r) (λ (o : i ≡ Instruction.Other w). (layout.other w f.0).0 (rw o at f.2) ∙ sym o)
     (layout.only w f.0 i f.1)
 
 -- number 0 is an accepted record
-accepted : (m : Written) → (answer_of m).number ≡ 0 → m ≡ Word (answer_of m).word
-accepted (Word w) e = refl
-accepted Refused e = absurd (omega arith)
+accepted : (m : Result ℕ NoWord) → (answer_of m).number ≡ 0 → m ≡ Ok (answer_of m).word
+accepted (Ok w) e = refl
+accepted (Err r) e = absurd (omega arith)
 
 pub term2 : Term2
 term2 = record {

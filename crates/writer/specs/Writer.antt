@@ -1,13 +1,12 @@
 -- How a record is written, and what is refused with 5 (paper 01, "Words and records" and the numbers).
-use Rattle.std.specs.Prelude.{ℕ, Bool, true, false, List, []}
+use Rattle.std.specs.Prelude.{ℕ, Bool, true, false, List, [], Result, Ok, Err}
 use Rattle.bits.specs.Bits.{num}
 use Rattle.writer.specs.Fields.{allow, packed, Field, ◌⟨◌⟩◌}
 use Rattle.word.specs.Reader.{read_of, is_other}
 use Rattle.word.specs.declared.Operand.{Operand}
 use Rattle.word.specs.declared.Operand.TheVariants.{Constant, ShiftByAmount, ShiftByRegister}
 use Rattle.word.specs.declared.Instruction.{Instruction}
-use Rattle.writer.specs.declared.Written.{Written}
-use Rattle.writer.specs.declared.Written.TheVariants.{Word, Refused}
+use Rattle.writer.specs.declared.NoWord.{NoWord}
 
 -- bits 11..0
 abbrev pub operand_fields : Operand → List Field
@@ -57,8 +56,8 @@ class_has (Instruction.Multiply i) = true
 class_has (Instruction.Other word) = is_other (read_of word)
 
 -- the word of a record, refused where its class lacks it or a field is too wide
-unfoldable pub written : Instruction → Written
-written i = allow (class_has i) (packed (Word 0) (fields_of i))
+unfoldable pub written : Instruction → Result ℕ NoWord
+written i = allow (class_has i) (packed (Ok 0) (fields_of i))
 
 -- the number of a record that no word reads as
 abbrev pub no_word_for : ℕ
@@ -69,9 +68,9 @@ pub record Answer : Type 0 where
   pub number : ℕ
   pub word : ℕ
 
-abbrev pub answer_of : Written → Answer
-answer_of (Word w) = record { number = 0; word = w }
-answer_of Refused = record { number = no_word_for; word = 0 }
+abbrev pub answer_of : Result ℕ NoWord → Answer
+answer_of (Ok w) = record { number = 0; word = w }
+answer_of (Err e) = record { number = no_word_for; word = 0 }
 
 abbrev pub write_of : Instruction → Answer
 write_of i = answer_of (written i)

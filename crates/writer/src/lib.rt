@@ -1,26 +1,30 @@
 // The writer: a record as its word, fields put one behind the other from the highest to the lowest.
 #![tactic(auto)]
 
-ghost use Rattle.std.specs.Prelude.{◌≡◌, ◌<◌};
-ghost use Rattle.bits.specs.Bits.{num};
-ghost use Rattle.writer.specs.Fields.{put, packed};
-ghost use Rattle.writer.specs.Writer.{operand_fields, processing_class, single_class, single_has, written, answer_of, write_of};
+ghost use Rattle.std.specs.Prelude.{◌≡◌, ◌<◌, Ok, map, IsTrue};
+ghost use Rattle.std.specs.List.{list_all};
+ghost use Rattle.writer.specs.Fields.{allow, put, packed, field_of, is_narrow};
+ghost use Rattle.writer.specs.Writer.{operand_fields, processing_class, single_class, single_has, written, no_word_for, answer_of, write_of};
 
-use bits::number;
 use word::reader::{is_other, read};
 use word::{Block, Branch, Instruction, Multiply, Operand, Processing, Single};
 
-// The number of a record that no word reads as.
+// A refusal: no word reads as the record.
+#[derive(Clone, Copy, PartialEq, Eq, Debug)]
+pub struct NoWord;
+
+// Its number.
 pub const NO_WORD_FOR: u32 = 5;
 
-// A writer's answer: the word, or a refusal, which has that number.
-#[derive(Clone, Copy)]
-pub enum Written {
-    Word(u32),
-    Refused,
+impl From<NoWord> for u32 {
+    ghost from_gives = { λ e number. number ≡ no_word_for };
+
+    fn from(_: NoWord) -> Self {
+        NO_WORD_FOR
+    }
 }
 
-pub fn write(i: Instruction) -> Written
+pub fn write(i: Instruction) -> Result<u32, NoWord>
     ensures { answer_of result ≡ write_of i }
 {
     match i {
@@ -34,145 +38,151 @@ pub fn write(i: Instruction) -> Written
 }
 
 // A field behind what is written, where the value fits the field and the word has room.
-fn put(m: Written, width: u32, value: u32) -> Written
+fn put(word: u32, width: u32, value: u32) -> Result<u32, NoWord>
     requires { (0 < width) × (width < 32) }
-    ensures { result ≡ put m width value }
+    ensures { result ≡ put (Ok word) width value }
 {
-    let Written::Word(word) = m else {
-        return Written::Refused;
-    };
-    if value >> width == 0 {
-        if word >> (32 - width) == 0 {
-            Written::Word((word << width) + value)
-        } else {
-            Written::Refused
-        }
+    let fits = value >> width == 0;
+    let has_room = word >> (32 - width) == 0;
+    if fits && has_room {
+        Ok((word << width) + value)
     } else {
-        Written::Refused
+        Err(NoWord)
     }
 }
 
-fn flag(m: Written, b: bool) -> Written
-    ensures { result ≡ put m 1 (num b) }
+// Fields behind what is written, each a value and its width.
+fn packed(word: u32, fields: &[(u32, u32)]) -> Result<u32, NoWord>
+    requires { IsTrue (list_all is_narrow fields.now) }
+    ensures { result ≡ packed (Ok word) (map field_of fields.now) }
 {
-    put(m, 1, number(b))
-}
-
-// Bits 24..20 of a transfer.
-fn flags(m: Written, b24: bool, b23: bool, b22: bool, b21: bool, b20: bool) -> Written
-    ensures { result ≡ put (put (put (put (put m 1 (num b24)) 1 (num b23)) 1 (num b22)) 1 (num b21)) 1 (num b20) }
-{
-    flag(flag(flag(flag(flag(m, b24), b23), b22), b21), b20)
+    fields
+        .iter()
+        .try_fold(word, |word, &(value, width)| put(word, width, value))
 }
 
 // Bits 11..0.
-fn with_operand(m: Written, operand: Operand) -> Written
-    ensures { result ≡ packed m (operand_fields operand) }
+fn with_operand(word: u32, operand: Operand) -> Result<u32, NoWord>
+    ensures { result ≡ packed (Ok word) (operand_fields operand) }
 {
     match operand {
-        Operand::Constant { rotate, value } => put(put(m, 4, rotate), 8, value),
+        Operand::Constant { rotate, value } => packed(word, &[(rotate, 4), (value, 8)]),
         Operand::ShiftByAmount { rm, shift, amount } => {
-            put(put(put(put(m, 5, amount), 2, shift), 1, 0), 4, rm)
+            packed(word, &[(amount, 5), (shift, 2), (0, 1), (rm, 4)])
         }
         Operand::ShiftByRegister { rm, shift, rs } => {
-            put(put(put(put(put(m, 4, rs), 1, 0), 2, shift), 1, 1), 4, rm)
+            packed(word, &[(rs, 4), (0, 1), (shift, 2), (1, 1), (rm, 4)])
         }
     }
 }
 
-// Bits 31..25.
-fn head(condition: u32, class: u32) -> Written
-    ensures { result ≡ put (put (Written.Word 0) 4 condition) 3 class }
-{
-    put(put(Written::Word(0), 4, condition), 3, class)
-}
-
+// Bits 27..25, whose lowest is I.
 fn processing_class(operand: Operand) -> u32
     ensures { result ≡ processing_class operand }
 {
     match operand {
         Operand::Constant { .. } => 1,
-        Operand::ShiftByAmount { .. } => 0,
-        Operand::ShiftByRegister { .. } => 0,
+        Operand::ShiftByAmount { .. } | Operand::ShiftByRegister { .. } => 0,
     }
 }
 
-fn processing(i: Processing) -> Written
+fn processing(i: Processing) -> Result<u32, NoWord>
     ensures { result ≡ written (Instruction.Processing i) }
 {
-    let operand = i.operand;
-    let operation = put(head(i.condition, processing_class(operand)), 4, i.operation);
-    with_operand(put(put(flag(operation, i.s), 4, i.rn), 4, i.rd), operand)
+    let fields = [
+        (i.condition, 4),
+        (processing_class(i.operand), 3),
+        (i.operation, 4),
+        (u32::from(i.s), 1),
+        (i.rn, 4),
+        (i.rd, 4),
+    ];
+    let word = packed(0, &fields)?;
+    with_operand(word, i.operand)
 }
 
-fn single_class(offset: Operand) -> u32
-    ensures { result ≡ single_class offset }
+// The same of a single transfer, which has no offset by a register.
+fn single_class(offset: Operand) -> Result<u32, NoWord>
+    ensures { result ≡ allow (single_has offset) (Ok (single_class offset)) }
 {
     match offset {
-        Operand::Constant { .. } => 2,
-        Operand::ShiftByAmount { .. } => 3,
-        Operand::ShiftByRegister { .. } => 3,
+        Operand::Constant { .. } => Ok(2),
+        Operand::ShiftByAmount { .. } => Ok(3),
+        Operand::ShiftByRegister { .. } => Err(NoWord),
     }
 }
 
-// The operand kinds that a single transfer has.
-fn single_has(offset: Operand) -> bool
-    ensures { result ≡ single_has offset }
-{
-    match offset {
-        Operand::Constant { .. } => true,
-        Operand::ShiftByAmount { .. } => true,
-        Operand::ShiftByRegister { .. } => false,
-    }
-}
-
-fn single(i: Single) -> Written
+fn single(i: Single) -> Result<u32, NoWord>
     ensures { result ≡ written (Instruction.Single i) }
 {
-    let offset = i.offset;
-    if single_has(offset) {
-        let bits = flags(
-            head(i.condition, single_class(offset)),
-            i.p,
-            i.u,
-            i.b,
-            i.w,
-            i.l,
-        );
-        with_operand(put(put(bits, 4, i.rn), 4, i.rd), offset)
-    } else {
-        Written::Refused
-    }
+    let fields = [
+        (i.condition, 4),
+        (single_class(i.offset)?, 3),
+        (u32::from(i.p), 1),
+        (u32::from(i.u), 1),
+        (u32::from(i.b), 1),
+        (u32::from(i.w), 1),
+        (u32::from(i.l), 1),
+        (i.rn, 4),
+        (i.rd, 4),
+    ];
+    let word = packed(0, &fields)?;
+    with_operand(word, i.offset)
 }
 
-fn block(i: Block) -> Written
+fn block(i: Block) -> Result<u32, NoWord>
     ensures { result ≡ written (Instruction.Block i) }
 {
-    let bits = flags(head(i.condition, 4), i.p, i.u, i.s, i.w, i.l);
-    put(put(bits, 4, i.rn), 16, i.list)
+    let fields = [
+        (i.condition, 4),
+        (4, 3),
+        (u32::from(i.p), 1),
+        (u32::from(i.u), 1),
+        (u32::from(i.s), 1),
+        (u32::from(i.w), 1),
+        (u32::from(i.l), 1),
+        (i.rn, 4),
+        (i.list, 16),
+    ];
+    packed(0, &fields)
 }
 
-fn branch(i: Branch) -> Written
+fn branch(i: Branch) -> Result<u32, NoWord>
     ensures { result ≡ written (Instruction.Branch i) }
 {
-    put(flag(head(i.condition, 5), i.link), 24, i.offset)
+    let fields = [
+        (i.condition, 4),
+        (5, 3),
+        (u32::from(i.link), 1),
+        (i.offset, 24),
+    ];
+    packed(0, &fields)
 }
 
-fn multiply(i: Multiply) -> Written
+fn multiply(i: Multiply) -> Result<u32, NoWord>
     ensures { result ≡ written (Instruction.Multiply i) }
 {
-    let head = put(put(Written::Word(0), 4, i.condition), 6, 0);
-    let registers = put(flag(flag(head, i.accumulate), i.s), 4, i.rd);
-    put(put(put(put(registers, 4, i.rn), 4, i.rs), 4, 9), 4, i.rm)
+    let fields = [
+        (i.condition, 4),
+        (0b000000, 6),
+        (u32::from(i.accumulate), 1),
+        (u32::from(i.s), 1),
+        (i.rd, 4),
+        (i.rn, 4),
+        (i.rs, 4),
+        (0b1001, 4),
+        (i.rm, 4),
+    ];
+    packed(0, &fields)
 }
 
 // An Other holds no word of another class.
-fn other(word: u32) -> Written
+fn other(word: u32) -> Result<u32, NoWord>
     ensures { result ≡ written (Instruction.Other word) }
 {
     if is_other(read(word)) {
-        Written::Word(word)
+        Ok(word)
     } else {
-        Written::Refused
+        Err(NoWord)
     }
 }

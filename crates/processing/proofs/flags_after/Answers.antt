@@ -4,7 +4,7 @@ use Rattle.processing.proofs.flags_after.Goals as goal
 
 pub returns-then-i-lt15 : goal.returns-then-i-lt15
 unfolding flags_after
-returns-then-i-lt15 c = simp (c.made_flags.ensures, lt-ltb _ _ c.if-i-lt15.true, c.if-i.true)
+returns-then-i-lt15 c = simp (c.made_flags.ensures, c.shifter_carry-carry.ensures, lt-ltb _ _ c.if-i-lt15.true, c.if-i.true)
 
 pub returns-else-i-lt15 : goal.returns-else-i-lt15
 unfolding flags_after

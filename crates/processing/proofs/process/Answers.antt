@@ -1,10 +1,7 @@
-use Rattle.processing.proofs.Parts.{joined}
 use Rattle.processing.proofs.process.Goals as goal
 
-pub flags_after-f-requires : goal.flags_after-f-requires
-flags_after-f-requires c = rw (← c.carry_of.ensures) (c.result-value.ensures _ _)
+pub process_taken-requires : goal.process_taken-requires
+process_taken-requires c = rw c.take-t.ensures.0 c.take-t.ensures.1
 
 pub returns : goal.returns
-returns c =
-    joined _ _ _ _ c.register-rn.ensures c.operand-b.ensures (rw (← c.carry_of.ensures) (c.result-value.ensures _ _))
-    c.flags_after-f.ensures c.store_result.ensures
+returns c = rw c.take-t.ensures.0 at c.process_taken.ensures

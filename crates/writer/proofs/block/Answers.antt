@@ -3,4 +3,4 @@ use Rattle.writer.proofs.block.Goals as goal
 
 pub returns : goal.returns
 unfolding written
-returns c = simp (c.put-2.ensures, c.put.ensures, c.flags-bits.ensures, c.head.ensures)
+returns c = cc

@@ -3,4 +3,4 @@ use Rattle.writer.proofs.branch.Goals as goal
 
 pub returns : goal.returns
 unfolding written
-returns c = simp (c.put.ensures, c.flag.ensures, c.head.ensures)
+returns c = cc

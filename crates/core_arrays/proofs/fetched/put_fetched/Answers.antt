@@ -1,7 +1,7 @@
 use Rattle.core_arrays.proofs.fetched.put_fetched.Goals as goal
 
-pub returns-in-Word : goal.returns-in-Word
-returns-in-Word c = simp c.in-Word.is
+pub returns-in-Some : goal.returns-in-Some
+returns-in-Some c = simp c.in-Some.is
 
-pub returns-in-Blank : goal.returns-in-Blank
-returns-in-Blank c = simp c.in-Blank.is
+pub returns-in-None : goal.returns-in-None
+returns-in-None c = simp c.in-None.is

@@ -1,11 +1,11 @@
-use lib.ListN.{get_or-eq_default}
+use Rattle.std.proofs.Common.{arith, ◌∙◌}
 use Rattle.memory.specs.Bytes.{byte_in}
 use Rattle.memory.proofs.bytes.byte_in.Goals as goal
 
-pub returns-then-at-memory : goal.returns-then-at-memory
+pub returns-in-Some : goal.returns-in-Some
 unfolding byte_in
-returns-then-at-memory c = c.wide.ensures
+returns-in-Some c = c.from.ensures ∙ c.in-Some.ensures.lookup.3.1 0
 
-pub returns-else-at-memory : goal.returns-else-at-memory
+pub returns-in-None : goal.returns-in-None
 unfolding byte_in
-returns-else-at-memory c = rw (get_or-eq_default _ _ c.if-at-memory.false)
+returns-in-None c = c.in-None.ensures.lookup.4 (omega arith) 0

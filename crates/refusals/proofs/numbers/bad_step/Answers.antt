@@ -8,14 +8,14 @@ unfolding due
 returns-then-passes c mem =
     let passing = rw c.field.ensures at (sym c.passes.ensures ∙ c.if-passes.true) in
     let r = c.args.c in
-    step-within {d = due r.pipe.ix r.flags} _ _ (c.bad_word.ensures mem) (rw (c.in-Word.is, passing))
+    step-within {d = due r.pipe.ix r.flags} _ _ (c.bad_word.ensures mem) (rw (c.in-Some.is, passing))
 
 pub returns-else-passes : goal.returns-else-passes
 unfolding due
 returns-else-passes c mem =
     let failing = rw c.field.ensures at (sym c.passes.ensures ∙ c.if-passes.false) in
-    rw (c.in-Word.is, failing)
+    rw (c.in-Some.is, failing)
 
-pub returns-in-Blank : goal.returns-in-Blank
+pub returns-in-None : goal.returns-in-None
 unfolding due
-returns-in-Blank c mem = rw c.in-Blank.is
+returns-in-None c mem = rw c.in-None.is

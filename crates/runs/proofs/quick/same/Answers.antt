@@ -1,13 +1,13 @@
 use Rattle.runs.proofs.quick.same.Goals as goal
 
-pub returns-in-Word-y : goal.returns-in-Word-y
-returns-in-Word-y c = rw (c.in-Word.is, c.in-Word-y.is)
+pub returns-in-Some-y : goal.returns-in-Some-y
+returns-in-Some-y c = rw (c.in-Some.is, c.in-Some-y.is)
 
-pub returns-in-Blank-y : goal.returns-in-Blank-y
-returns-in-Blank-y c = rw (c.in-Word.is, c.in-Blank-y.is)
+pub returns-in-None-y : goal.returns-in-None-y
+returns-in-None-y c = rw (c.in-Some.is, c.in-None-y.is)
 
-pub returns-in-Word-y-2 : goal.returns-in-Word-y-2
-returns-in-Word-y-2 c = rw (c.in-Blank.is, c.in-Word-y-2.is)
+pub returns-in-Some-y-2 : goal.returns-in-Some-y-2
+returns-in-Some-y-2 c = rw (c.in-None.is, c.in-Some-y-2.is)
 
-pub returns-in-Blank-y-2 : goal.returns-in-Blank-y-2
-returns-in-Blank-y-2 c = rw (c.in-Blank.is, c.in-Blank-y-2.is)
+pub returns-in-None-y-2 : goal.returns-in-None-y-2
+returns-in-None-y-2 c = rw (c.in-None.is, c.in-None-y-2.is)

@@ -1,8 +1,8 @@
 use Rattle.semantics.proofs.Results.{went_on, went_to}
 use Rattle.semantics.proofs.perform.done.Goals as goal
 
-pub returns-in-Next : goal.returns-in-Next
-returns-in-Next c = went_on _ _ c.in-Next.is c.went_on.ensures
+pub returns-in-None : goal.returns-in-None
+returns-in-None c = went_on _ _ c.in-None.is c.went_on.ensures
 
-pub returns-in-To : goal.returns-in-To
-returns-in-To c = went_to _ _ c.in-To.is c.counter.ensures
+pub returns-in-Some : goal.returns-in-Some
+returns-in-Some c = went_to _ _ c.in-Some.is c.counter.ensures

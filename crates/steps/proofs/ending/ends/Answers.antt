@@ -1,7 +1,7 @@
 use Rattle.steps.proofs.ending.ends.Goals as goal
 
-pub returns-in-Next : goal.returns-in-Next
-returns-in-Next c = rw c.in-Next.is
+pub returns-in-None : goal.returns-in-None
+returns-in-None c = rw c.in-None.is
 
-pub returns-in-To : goal.returns-in-To
-returns-in-To c = rw c.in-To.is
+pub returns-in-Some : goal.returns-in-Some
+returns-in-Some c = rw c.in-Some.is

@@ -10,10 +10,10 @@ pub returns-then-passes : goal.returns-then-passes
 unfolding stop_for due
 returns-then-passes c bytes =
     let passing = rw c.field.ensures at (sym c.passes.ensures ∙ c.if-passes.true) in
-    rw (c.in-Word.is, passing) (c.word_stop.ensures bytes)
+    rw (c.in-Some.is, passing) (c.word_stop.ensures bytes)
 
 pub returns-else-passes : goal.returns-else-passes
 unfolding stop_for due
 returns-else-passes c bytes =
     let failing = rw c.field.ensures at (sym c.passes.ensures ∙ c.if-passes.false) in
-    rw (c.in-Word.is, failing)
+    rw (c.in-Some.is, failing)

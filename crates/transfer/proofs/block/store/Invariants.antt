@@ -1,4 +1,4 @@
--- The loop's invariant: storing what is left from here on is storing the whole list. The measure is how many are left.
+-- The loop's invariant: storing what is left from here on is storing the whole list.
 -- Assumes nothing.
 use Rattle.std.proofs.Common.{◌≡◌, length}
 use Rattle.memory.specs.Memory.{memory_of}
@@ -7,9 +7,5 @@ use Rattle.transfer.proofs.block.store.Given as goal
 
 abbrev pub invariant-loop-n : goal.invariant-loop-n
 invariant-loop-n l =
-    (stores (named l.left) l.registers l.flags l.a12 l.at (memory_of l.board l.memory) ≡ stores (named l.list) l.registers l.flags l.a12 l.address (memory_of l.board l.initial.memory))
-    × (l.n ≡ length (named l.left))
+    (stores (named l.n-iterator.0) l.registers l.flags l.a12 l.at (memory_of l.board l.memory) ≡ stores (named l.list) l.registers l.flags l.a12 l.address (memory_of l.board l.initial.memory))
     × (length l.memory ≡ length l.initial.memory)
-
-abbrev pub decreases-loop-n : goal.decreases-loop-n
-decreases-loop-n l = l.n

@@ -1,11 +1,8 @@
--- The loop's invariant: what is left, without the registers still to drop, is what was asked for. The measure is how many those are.
+-- The loop's invariant: what is left, without the registers still to drop, is what was asked for.
 -- Assumes nothing.
-use Rattle.std.proofs.Common.{◌≡◌, ◌<◌, drop}
+use Rattle.std.proofs.Common.{◌≡◌, ◌<◌, ◌-◌, drop}
 use Rattle.transfer.specs.Block.{named}
 use Rattle.transfer.proofs.named.dropped.Given as goal
 
-abbrev pub invariant-loop-more : goal.invariant-loop-more
-invariant-loop-more l = (drop l.more (named l.left) ≡ drop l.k (named l.list)) × (l.left < 65536)
-
-abbrev pub decreases-loop-more : goal.decreases-loop-more
-decreases-loop-more l = l.more
+abbrev pub invariant-loop-taken : goal.invariant-loop-taken
+invariant-loop-taken l = (drop (l.k - l._taken) (named l.left) ≡ drop l.k (named l.list)) × (l.left < 65536)

@@ -8,7 +8,7 @@ returns-in-Constant c = simp c.in-Constant.is (omega arith)
 
 pub returns-in-ShiftByAmount : goal.returns-in-ShiftByAmount
 unfolding offset_of
-returns-in-ShiftByAmount c = simp (c.by_amount.ensures, c.carry_of.ensures, c.register.ensures, c.in-ShiftByAmount.is)
+returns-in-ShiftByAmount c = simp (c.shifted_offset.ensures, c.register.ensures, c.in-ShiftByAmount.is)
 
 pub returns-in-ShiftByRegister : goal.returns-in-ShiftByRegister
 unfolding offset_of

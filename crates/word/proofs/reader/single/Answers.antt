@@ -1,4 +1,0 @@
-use Rattle.word.proofs.reader.single.Goals as goal
-
-pub returns : goal.returns
-returns c = simp (c.field-3.ensures, c.field-2.ensures, c.bit-5.ensures, c.bit-4.ensures, c.bit-3.ensures, c.bit-2.ensures, c.bit.ensures, c.field.ensures)
