@@ -24,7 +24,7 @@ pub fn stop_found(c: Control, registers: &[u32; 15]) -> u32
         let pipe = c.pipe;
         let ix = pipe.ix;
         let board = c.board;
-        stop_for(ix, registers, c.flags, behind(pipe.pc), board)
+        stop_for(ix, registers, c.flags, behind(pipe.pc, 8), board)
     } else {
         0
     }

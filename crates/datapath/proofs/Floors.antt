@@ -1,20 +1,25 @@
 -- A word moved right and filled with its sign stands for the signed value divided, rounded down.
 -- Assumes nothing.
-use Rattle.std.proofs.Common.{◌≡◌, ℕ, suc, ◌+◌, ◌-◌, ◌*◌, ◌/◌, ◌%◌, ◌^◌, ◌<◌, ◌≤◌, Bool, true, false, ℤ, pos, negsuc, sym, ap, ◌∙◌, mod-lt, arith, pow_pos, pow-add, le-ltb, lt-ltb}
+use Rattle.std.proofs.Common.{◌≡◌, ℕ, suc, ◌+◌, ◌-◌, ◌*◌, ◌/◌, ◌%◌, ◌^◌, ◌<◌, ◌≤◌, Bool, true, false, ℤ, pos, negsuc, sym, ap, ◌∙◌, mod-lt, arith, w32, to_z, of_z, pow_pos, pow-add, le-ltb, lt-ltb}
 use native.Mathlib.Nat.{div-eq_of_lt}
 use lib.Pow.{high, split, shl-shr, shr_le, shr_mono}
 use lib.Signed.{shr_z}
+use Rattle.std.proofs.lemmas.Int.{ints, of_z-to_z}
 use Rattle.bits.specs.Bits.{bit, field, num}
 use Rattle.bits.proofs.Fields.{num-bit, word_lt}
 use Rattle.datapath.specs.Shifter.{signed}
 use Rattle.datapath.specs.Signed.{signed_value}
-use Rattle.datapath.proofs.Moved.{room-le, room-even, shr-word-lt}
+use Rattle.datapath.proofs.Moved.{room-le, room-even, shr-word-lt, signed_lt}
 
 clear : (w : ℕ) → w < 2 ^ 31 → signed_value w ≡ pos w
 clear w h = rw (lt-ltb w (2 ^ 31) h)
 
 set : (w : ℕ) → 2 ^ 31 ≤ w → w < 2 ^ 32 → signed_value w ≡ negsuc (2 ^ 32 - suc w)
 set w l h = rw (le-ltb w (2 ^ 31) l, lt-ltb w (2 ^ 32) h)
+
+-- as the library reads a word
+value-to_z : (w : ℕ) → w < 2 ^ 32 → signed_value w ≡ to_z w32 w
+value-to_z w h = grind (arith, ints)
 
 -- v = q m + r and what it lacks to m p, both divided by m
 lacks : (v q r m p d : ℕ) → q * m + r ≡ v → r < m → d + suc q ≡ p → m * p ≡ 2 ^ 32 → 2 ^ 32 - suc v ≡ d * m + (m - suc r)
@@ -72,3 +77,9 @@ module _ (v n : ℕ) (h : v < 2 ^ 32) where
       go false e =
           let s : v < 2 ^ 31 = omega arith in
           rw (none, clear v s, div-eq_of_lt (word_lt v n h l))
+
+-- moved right as the library's signed number
+pub moved_right : (v n : ℕ) → v < 2 ^ 32 → n < 32 → of_z w32 (shr_z (to_z w32 v) (2 ^ n)) ≡ signed v n
+moved_right v n h l =
+    let s : signed v n < 2 ^ 32 = signed_lt v n h l in
+    rw (← (value-to_z v h), ← (below-32 v n h l), value-to_z (signed v n) s) (of_z-to_z w32 (signed v n) s)

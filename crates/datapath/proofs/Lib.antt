@@ -1,7 +1,7 @@
 pub mod Moved
 pub mod Flags
 pub mod Sums
-pub mod Cases
+pub mod ValueAlone
 pub mod Counters
 pub mod Marked
 pub mod Integers

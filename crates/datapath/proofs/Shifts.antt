@@ -12,7 +12,7 @@ use Rattle.datapath.specs.declared.Shifted.{Shifted}
 use Rattle.datapath.specs.Shifter.{shifted, rotated, signed, lsl, lsr, asr, ror, shift, constant}
 use Rattle.datapath.specs.Signed.{signed_value}
 use Rattle.datapath.specs.Shifts.{after, Shifts}
-use Rattle.datapath.proofs.Moved.{room-le, room-even, shr-word-lt, signed-whole, turned-word-lt}
+use Rattle.datapath.proofs.Moved.{room-even, signed_whole, signed_lt, turned-word-lt}
 use Rattle.datapath.proofs.Rotations.{turned_bit}
 use Rattle.datapath.proofs.Floors.{below-32, from-32}
 
@@ -160,18 +160,10 @@ constant_carry r v c h = rw (ne_eqb r 0 (λ (e : r ≡ 0). omega arith))
 
 -- ---- every result is a word
 
-signed_lt : (v n : ℕ) → v < 2 ^ 32 → n < 32 → signed v n < 2 ^ 32
-unfolding signed
-signed_lt v n h l = go (bit v 31)
-  where
-    go : (t : Bool) → v / 2 ^ n + num t * (2 ^ 32 - 2 ^ (32 - n)) < 2 ^ 32
-    go true = omega (arith, shr-word-lt v n h l, room-le n)
-    go false = omega (arith, shr_le v n)
-
 asr-lt : (v n : ℕ) → v < 2 ^ 32 → (asr v n).value < 2 ^ 32
 unfolding asr
 asr-lt v n h =
-    chosen (λ (s : Shifted). s.value < 2 ^ 32) (suc n) 32 (signed_lt v n h) (λ l. rw (← (signed-whole v h)) (signed_lt v 31 h (lit< tt)))
+    chosen (λ (s : Shifted). s.value < 2 ^ 32) (suc n) 32 (signed_lt v n h) (λ l. rw (← (signed_whole v h)) (signed_lt v 31 h (lit< tt)))
 
 ror-lt : (v n : ℕ) → v < 2 ^ 32 → (ror v n).value < 2 ^ 32
 unfolding ror rotated

@@ -3,6 +3,8 @@ use Rattle.std.specs.Prelude.{ℕ, ◌+◌, ◌-◌, ◌*◌, ◌%◌, ◌^◌, 
 use Rattle.bits.specs.Choice.{same}
 use Rattle.bits.specs.Bits.{bit, num}
 use Rattle.datapath.specs.declared.Computed.{Computed}
+use Rattle.datapath.specs.declared.alu.Operation.{Operation}
+use Rattle.datapath.specs.declared.alu.Operation.TheVariants.{And, Eor, Sub, Rsb, Add, Adc, Sbc, Rsc, Tst, Teq, Cmp, Cmn, Orr, Mov, Bic, Mvn}
 
 -- a result, and the C and V that go with it into the flags
 abbrev pub computed : ℕ → Bool → Bool → Computed
@@ -28,6 +30,25 @@ difference a b c =
     let taken = b + num (not c) in
     let r = (a + 2 ^ 32 - taken) % 2 ^ 32 in
     computed r (nat_le taken a) (difference_overflows a b r)
+
+-- the operations' numbers, bits 24..21 of a word
+abbrev pub operation_number : Operation → ℕ
+operation_number And = 0
+operation_number Eor = 1
+operation_number Sub = 2
+operation_number Rsb = 3
+operation_number Add = 4
+operation_number Adc = 5
+operation_number Sbc = 6
+operation_number Rsc = 7
+operation_number Tst = 8
+operation_number Teq = 9
+operation_number Cmp = 10
+operation_number Cmn = 11
+operation_number Orr = 12
+operation_number Mov = 13
+operation_number Bic = 14
+operation_number Mvn = 15
 
 -- every bit the other way
 abbrev pub inverted : ℕ → ℕ

@@ -3,6 +3,8 @@ use Rattle.std.specs.Prelude.{ℕ, ◌+◌, ◌-◌, ◌*◌, ◌/◌, ◌%◌, 
 use Rattle.bits.specs.Choice.{pick}
 use Rattle.bits.specs.Bits.{bit, num}
 use Rattle.datapath.specs.declared.Shifted.{Shifted}
+use Rattle.datapath.specs.declared.shifter.Shift.{Shift}
+use Rattle.datapath.specs.declared.shifter.Shift.TheVariants.{Lsl, Lsr, Asr, Ror}
 
 abbrev pub shifted : ℕ → Bool → Shifted
 shifted v c = record { value = v; carry = c }
@@ -29,6 +31,13 @@ asr v n = pick (nat_lt n 32) (shifted (signed v n) (bit v (n - 1))) (shifted (si
 -- the carry is bit 31 of the result, also where a multiple of 32 keeps the value
 unfoldable pub ror : ℕ → ℕ → Shifted
 ror v n = shifted (rotated v n) (bit (rotated v n) 31)
+
+-- the kinds' numbers, bits 6..5 of a word
+abbrev pub shift_number : Shift → ℕ
+shift_number Lsl = 0
+shift_number Lsr = 1
+shift_number Asr = 2
+shift_number Ror = 3
 
 -- bits 6..5 of a word: LSL, LSR, ASR, and from 3 on ROR
 unfoldable pub shift : ℕ → ℕ → ℕ → Shifted

@@ -6,27 +6,23 @@ ghost use Rattle.datapath.specs.Counter.{ahead, behind, counter, r15_word};
 pub const COUNTERS: u32 = 0x4000000;
 
 // The counter n bytes on, modulo 2^26.
+#[tactic(auto, unfolding(crate::specs::Counter::ahead))]
 pub fn ahead(a: u32, n: u32) -> u32
     ensures { result ≡ ahead a n }
 {
-    std::num::wrapping_add_u32(a, n) % COUNTERS
+    a.wrapping_add(n) % COUNTERS
 }
 
-// The address of the instruction whose step 1 sees this counter.
-pub fn behind(pc: u32) -> u32
-    ensures { result ≡ behind pc 8 }
+// The address of the instruction that is n bytes behind this counter: 8 in its step 1, 12 in a later step.
+#[tactic(auto, unfolding(crate::specs::Counter::ahead, crate::specs::Counter::behind))]
+pub fn behind(pc: u32, n: u32) -> u32
+    ensures { result ≡ behind pc n }
 {
-    ahead(pc, 0x3fffff8)
-}
-
-// The same where a later step sees it.
-pub fn behind_later(pc: u32) -> u32
-    ensures { result ≡ behind pc 12 }
-{
-    ahead(pc, 0x3fffff4)
+    ahead(pc, COUNTERS.saturating_sub(n))
 }
 
 // The counter that a word stores: its bits 25..2.
+#[tactic(auto, unfolding(crate::specs::Counter::counter))]
 pub fn counter(word: u32) -> u32
     ensures { result ≡ counter word }
 {
@@ -34,6 +30,7 @@ pub fn counter(word: u32) -> u32
 }
 
 // Flags in bits 31..28 with a counter value's bits 25..2, and 0 in the other four.
+#[tactic(auto, unfolding(crate::specs::Counter::counter, crate::specs::Counter::r15_word))]
 pub fn r15_word(flags: u32, a: u32) -> u32
     ensures { result ≡ r15_word flags a }
 {

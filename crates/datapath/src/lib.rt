@@ -4,17 +4,16 @@
 pub mod alu;
 pub mod counter;
 pub mod shifter;
-pub mod value;
 
 // A value out of the shifter, and its carry out.
-#[derive(Clone, Copy)]
+#[derive(Clone, Copy, PartialEq, Eq, Debug)]
 pub struct Shifted {
     pub value: u32,
     pub carry: bool,
 }
 
 // A result of the ALU, and the C and V that go with it into the flags.
-#[derive(Clone, Copy)]
+#[derive(Clone, Copy, PartialEq, Eq, Debug)]
 pub struct Computed {
     pub value: u32,
     pub carry: bool,

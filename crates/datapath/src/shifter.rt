@@ -1,32 +1,53 @@
 // The shifter: a value shifted, and its carry out (paper 01, "Shifts").
-ghost use Rattle.std.specs.Prelude.{◌≡◌, ◌+◌, ◌*◌, ◌/◌, ◌^◌, ◌<◌};
+// It stands inlined at each of its calls, so that a caller that takes no carry has none worked out.
+ghost use Rattle.std.specs.Prelude.{◌≡◌, ◌+◌, ◌*◌, ◌/◌, ◌^◌, ◌<◌, min};
 ghost use Rattle.bits.specs.Bits.{num};
-ghost use Rattle.datapath.specs.Shifter.{rotated, signed, lsl, lsr, asr, ror, shift, zero_amount, by_register, by_amount, constant};
+ghost use Rattle.datapath.specs.Shifter.{rotated, signed, lsl, lsr, asr, ror, shift_number, shift, zero_amount, by_register, by_amount, constant};
 
 use super::Shifted;
 
-// Rotated right. The places are modulo 32 on the way left too, so that 0 of them need no test.
-pub fn rotate(v: u32, n: u32) -> u32
-    ensures { result ≡ rotated v n }
-{
-    let places = n % 32;
-    (v >> places) | (v << ((32 - places) % 32))
+// The kinds of shift, in the order of their numbers.
+#[derive(Clone, Copy, PartialEq, Eq, Debug)]
+pub enum Shift {
+    Lsl,
+    Lsr,
+    Asr,
+    Ror,
 }
 
-// Moved right, and filled with the sign.
-pub fn signed(v: u32, n: u32) -> u32
-    requires { n < 32 }
-    ensures { result ≡ signed v n }
-{
-    if bits::bit(v, 31) {
-        (v >> n) + (u32::MAX - (u32::MAX >> n))
-    } else {
-        v >> n
+// Bits 6..5 of a word, as the record holds them; from 3 on ROR.
+impl From<u32> for Shift {
+    ghost from_gives = { λ kind shift. shift_number shift ≡ min kind 3 };
+
+    fn from(kind: u32) -> Shift {
+        match kind {
+            0 => Shift::Lsl,
+            1 => Shift::Lsr,
+            2 => Shift::Asr,
+            _ => Shift::Ror,
+        }
     }
 }
 
+// Rotated right by a number of places that counts modulo 32.
+#[tactic(auto, using(crate::proofs::Moved::turned_word_or), unfolding(crate::specs::Shifter::rotated))]
+pub fn rotate(v: u32, n: u32) -> u32
+    ensures { result ≡ rotated v n }
+{
+    v.rotate_right(n)
+}
+
+// Moved right, and filled with the sign.
+fn signed(v: u32, n: u32) -> u32
+    requires { n < 32 }
+    ensures { result ≡ signed v n }
+{
+    (v.cast_signed() >> n).cast_unsigned()
+}
+
+#[inline(always)]
+#[tactic(auto, unfolding(crate::specs::Shifter::lsl))]
 fn lsl(v: u32, n: u32) -> Shifted
-    requires { 0 < n }
     ensures { result ≡ lsl v n }
 {
     if n < 32 {
@@ -42,14 +63,15 @@ fn lsl(v: u32, n: u32) -> Shifted
     }
 }
 
+#[inline(always)]
+#[tactic(auto, unfolding(crate::specs::Shifter::lsr))]
 fn lsr(v: u32, n: u32) -> Shifted
-    requires { 0 < n }
     ensures { result ≡ lsr v n }
 {
     if n < 32 {
         Shifted {
             value: v >> n,
-            carry: bits::bit(v, n - 1),
+            carry: bits::bit(v, n.saturating_sub(1)),
         }
     } else {
         Shifted {
@@ -60,14 +82,15 @@ fn lsr(v: u32, n: u32) -> Shifted
 }
 
 // From 32 on by 31 places, which leave nothing but sign.
+#[inline(always)]
+#[tactic(auto, using(crate::proofs::Moved::signed_whole), unfolding(crate::specs::Shifter::asr))]
 fn asr(v: u32, n: u32) -> Shifted
-    requires { 0 < n }
     ensures { result ≡ asr v n }
 {
     if n < 32 {
         Shifted {
             value: signed(v, n),
-            carry: bits::bit(v, n - 1),
+            carry: bits::bit(v, n.saturating_sub(1)),
         }
     } else {
         Shifted {
@@ -77,6 +100,8 @@ fn asr(v: u32, n: u32) -> Shifted
     }
 }
 
+#[inline(always)]
+#[tactic(auto, unfolding(crate::specs::Shifter::ror))]
 fn ror(v: u32, n: u32) -> Shifted
     ensures { result ≡ ror v n }
 {
@@ -88,34 +113,36 @@ fn ror(v: u32, n: u32) -> Shifted
 }
 
 // By an amount that is not 0.
-fn shift(kind: u32, v: u32, n: u32) -> Shifted
-    requires { 0 < n }
+#[inline(always)]
+#[tactic(auto, unfolding(crate::specs::Shifter::shift))]
+fn by_kind(kind: u32, v: u32, n: u32) -> Shifted
     ensures { result ≡ shift kind v n }
 {
-    match kind {
-        0 => lsl(v, n),
-        1 => lsr(v, n),
-        2 => asr(v, n),
-        _ => ror(v, n),
+    match Shift::from(kind) {
+        Shift::Lsl => lsl(v, n),
+        Shift::Lsr => lsr(v, n),
+        Shift::Asr => asr(v, n),
+        Shift::Ror => ror(v, n),
     }
 }
 
 // One place right, with C on top.
-pub fn through_carry(v: u32, carry: bool) -> u32
+fn through_carry(v: u32, carry: bool) -> u32
     ensures { result ≡ v / 2 + num carry * 2 ^ 31 }
 {
-    v / 2 + bits::number(carry) * 0x80000000
+    v / 2 + u32::from(carry) * 0x80000000
 }
 
 // By an amount of 0 in the word.
+#[inline(always)]
 fn zero_amount(kind: u32, v: u32, carry: bool) -> Shifted
     ensures { result ≡ zero_amount kind v carry }
 {
-    match kind {
-        0 => Shifted { value: v, carry },
-        1 => lsr(v, 32),
-        2 => asr(v, 32),
-        _ => Shifted {
+    match Shift::from(kind) {
+        Shift::Lsl => Shifted { value: v, carry },
+        Shift::Lsr => lsr(v, 32),
+        Shift::Asr => asr(v, 32),
+        Shift::Ror => Shifted {
             value: through_carry(v, carry),
             carry: bits::bit(v, 0),
         },
@@ -123,6 +150,8 @@ fn zero_amount(kind: u32, v: u32, carry: bool) -> Shifted
 }
 
 // By the low byte of Rs.
+#[inline(always)]
+#[tactic(auto, unfolding(crate::specs::Shifter::by_register))]
 pub fn by_register(kind: u32, v: u32, rs: u32, carry: bool) -> Shifted
     ensures { result ≡ by_register kind v rs carry }
 {
@@ -130,28 +159,30 @@ pub fn by_register(kind: u32, v: u32, rs: u32, carry: bool) -> Shifted
     if amount == 0 {
         Shifted { value: v, carry }
     } else {
-        shift(kind, v, amount)
+        by_kind(kind, v, amount)
     }
 }
 
 // By an amount in the word.
+#[inline(always)]
+#[tactic(auto, unfolding(crate::specs::Shifter::by_amount))]
 pub fn by_amount(kind: u32, v: u32, amount: u32, carry: bool) -> Shifted
     ensures { result ≡ by_amount kind v amount carry }
 {
     if amount == 0 {
         zero_amount(kind, v, carry)
     } else {
-        shift(kind, v, amount)
+        by_kind(kind, v, amount)
     }
 }
 
-// A constant: rotated right by twice r, which is modulo 16 so that twice it fits for every r.
+// A constant: rotated right by twice r, which is modulo 16 so that twice it fits for every r. By 0 it is kept, and with it C.
+#[inline(always)]
+#[tactic(auto, unfolding(crate::specs::Shifter::rotated, crate::specs::Shifter::ror, crate::specs::Shifter::constant))]
 pub fn constant(r: u32, v: u32, carry: bool) -> Shifted
     ensures { result ≡ constant r v carry }
 {
-    if r == 0 {
-        Shifted { value: v, carry }
-    } else {
-        ror(v, r % 16 * 2)
-    }
+    let value = rotate(v, r % 16 * 2);
+    let carry = if r == 0 { carry } else { bits::bit(value, 31) };
+    Shifted { value, carry }
 }

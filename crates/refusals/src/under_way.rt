@@ -7,7 +7,7 @@ ghost use Rattle.cycle.specs.Machine.{machine};
 ghost use Rattle.refusals.specs.Numbers.{bad_within};
 
 use cycle::Control;
-use datapath::counter::behind_later;
+use datapath::counter::behind;
 use semantics::own_steps::{block_steps, multiply_steps, processing_steps, single_steps};
 use stops::rules::{block_rule, multiply_rule, processing_rule, single_rule};
 use stops::span::outside;
@@ -32,7 +32,7 @@ fn bad_processing(i: Processing, k: u32, c: Control, registers: &[u32; 15]) -> b
     ensures { (mem : List ℕ) → result ≡ bad_within (Instruction.Processing i) k (machine registers.now c mem) }
 {
     let steps = processing_steps(i);
-    (processing_rule(i, registers, c.flags, behind_later(c.pipe.pc)) != 0) | !has_step(steps, k)
+    (processing_rule(i, registers, c.flags, behind(c.pipe.pc, 12)) != 0) | !has_step(steps, k)
 }
 
 fn bad_single(i: Single, k: u32, c: Control) -> bool

@@ -42,7 +42,7 @@ fn stands(c: Control, memory: &[u8]) -> bool
     let ir1 = pipe.ir1;
     let ir2 = pipe.ir2;
     let ix = pipe.ix;
-    let a = behind(pipe.pc);
+    let a = behind(pipe.pc, 8);
     let clear = (c.stop == 0)
         & (c.latches.address == 0)
         & (c.latches.datum == 0)
@@ -100,7 +100,7 @@ pub fn skip(c: Control, registers: &mut [u32; 15], memory: &mut [u8], budget: u6
 {
     if may_skip(c, memory, budget) {
         let board = c.board;
-        let a = behind(c.pipe.pc);
+        let a = behind(c.pipe.pc, 8);
         let came = wholes(registers, memory, c.flags, a, board, budget, budget);
         let counts = Counts {
             cycles: c.counts.cycles + came.used,

@@ -86,7 +86,7 @@ fn first_block(i: Block, registers: &[u32; 15], flags: u32, pc: u32) -> Step
 fn first_branch(i: Branch, registers: &mut [u32; 15], flags: u32, pc: u32) -> Step
     ensures { (mem : Memory) → own registers.new result mem ≡ first_step (Instruction.Branch i) registers.old flags pc mem }
 {
-    last(branch(i, registers, flags, behind(pc)))
+    last(branch(i, registers, flags, behind(pc, 8)))
 }
 
 // Step 1 of a word whose condition passes.

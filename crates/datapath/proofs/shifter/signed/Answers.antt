@@ -1,24 +1,14 @@
-use Rattle.std.proofs.Common.{◌≡◌, ◌-◌, ◌^◌, true, false, arith, pow_pos}
-use lib.Pow.{shr_le}
-use Rattle.bits.specs.Bits.{bit}
+use Rattle.std.proofs.Common.{w32}
+use Rattle.std.proofs.lemmas.Int.{of_z-to_z}
 use Rattle.datapath.specs.Shifter.{signed}
-use Rattle.datapath.proofs.Moved.{shr-ones, shr-word-lt}
+use Rattle.datapath.proofs.Moved.{signed_lt}
+use Rattle.datapath.proofs.Floors.{moved_right}
 use Rattle.datapath.proofs.shifter.signed.Goals as goal
 
-pub overflow_sub-result : goal.overflow_sub-result
-overflow_sub-result c = shr_le (2 ^ 32 - 1) _
-
-pub overflow_add-result : goal.overflow_add-result
-overflow_add-result c =
-    omega (arith, shr-word-lt c.args.v c.args.n c.ranges.v.fits c.requires, shr-ones c.args.n c.requires, shr_le (2 ^ 32 - 1) c.args.n)
-
-pub returns-then-bit : goal.returns-then-bit
-unfolding signed
-returns-then-bit c =
-    let set : bit c.args.v 31 ≡ true = cc in
-    rw set (omega (arith, pow_pos (32 - c.args.n), shr-ones c.args.n c.requires))
-
-pub returns-else-bit : goal.returns-else-bit
-unfolding signed
-returns-else-bit c =
-    let clear : bit c.args.v 31 ≡ false = cc in rw clear (omega arith)
+pub returns : goal.returns
+returns c =
+    let v = c.args.v in
+    let n = c.args.n in
+    let h = c.ranges.v.fits in
+    rw (c.cast_unsigned.ensures, c.cast_signed.ensures, of_z-to_z w32 v h, moved_right v n h c.requires)
+    (of_z-to_z w32 (signed v n) (signed_lt v n h c.requires))

@@ -1,27 +1,26 @@
-use Rattle.word.proofs.Dispatch.{reads-processing, reads-single, reads-block, reads-branch, reads-multiply, reads_other}
+use Rattle.std.proofs.Common.{sym, ◌∙◌}
 use Rattle.refusals.proofs.UnderWay.{read-within, branch-within, other-within}
 use Rattle.refusals.proofs.under_way.bad_word.Goals as goal
 
-pub returns-in-0 : goal.returns-in-0
-returns-in-0 c mem =
-    read-within _ _ (rw (c.processing.ensures, c.processing_operand.ensures) (reads-processing _ c.kind.ensures c.in-0.is))
+pub returns-in-Processing : goal.returns-in-Processing
+returns-in-Processing c mem =
+    read-within _ _ (sym c.in-Processing.is ∙ c.read.ensures)
     (c.bad_processing.ensures mem)
 
-pub returns-in-1 : goal.returns-in-1
-returns-in-1 c mem =
-    read-within _ _ (rw (c.single.ensures, c.single_offset.ensures) (reads-single _ c.kind.ensures c.in-1.is))
+pub returns-in-Single : goal.returns-in-Single
+returns-in-Single c mem =
+    read-within _ _ (sym c.in-Single.is ∙ c.read.ensures)
     (c.bad_single.ensures _ mem)
 
-pub returns-in-2 : goal.returns-in-2
-returns-in-2 c mem = read-within _ _ (rw c.block.ensures (reads-block _ c.kind.ensures c.in-2.is)) (c.bad_block.ensures _ mem)
+pub returns-in-Block : goal.returns-in-Block
+returns-in-Block c mem = read-within _ _ (sym c.in-Block.is ∙ c.read.ensures) (c.bad_block.ensures _ mem)
 
-pub returns-in-3 : goal.returns-in-3
-returns-in-3 c mem = read-within _ _ (reads-branch _ c.kind.ensures c.in-3.is) (branch-within _ _ _)
+pub returns-in-Branch : goal.returns-in-Branch
+returns-in-Branch c mem = read-within _ _ (sym c.in-Branch.is ∙ c.read.ensures) (branch-within _ _ _)
 
-pub returns-in-4 : goal.returns-in-4
-returns-in-4 c mem = read-within _ _ (rw c.multiply.ensures (reads-multiply _ c.kind.ensures c.in-4.is)) (c.bad_multiply.ensures mem)
+pub returns-in-Multiply : goal.returns-in-Multiply
+returns-in-Multiply c mem = read-within _ _ (sym c.in-Multiply.is ∙ c.read.ensures) (c.bad_multiply.ensures mem)
 
-pub returns-in_default : goal.returns-in_default
-returns-in_default c mem =
-    let (((((_, n0), n1), n2), n3), n4) = c.in_default.in_default-own.rest in
-    read-within _ _ (reads_other _ c.kind.ensures n0 n1 n2 n3 n4) (other-within _ _ _)
+pub returns-in-Other : goal.returns-in-Other
+returns-in-Other c mem =
+    read-within _ _ (sym c.in-Other.is ∙ c.read.ensures) (other-within _ _ _)

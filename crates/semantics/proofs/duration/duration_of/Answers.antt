@@ -1,27 +1,26 @@
-use Rattle.word.proofs.Dispatch.{reads-processing, reads-single, reads-block, reads-branch, reads-multiply, reads_other}
+use Rattle.std.proofs.Common.{sym, ◌∙◌}
 use Rattle.semantics.proofs.WordDurations.{read-lasts, branch-lasts, multiply-lasts, other-lasts}
 use Rattle.semantics.proofs.duration.duration_of.Goals as goal
 
-pub returns-in-0 : goal.returns-in-0
-returns-in-0 c =
-    read-lasts _ (rw (c.processing.ensures, c.processing_operand.ensures) (reads-processing _ c.kind.ensures c.in-0.is))
+pub returns-in-Processing : goal.returns-in-Processing
+returns-in-Processing c =
+    read-lasts _ (sym c.in-Processing.is ∙ c.read.ensures)
     (c.processing_duration.ensures _)
 
-pub returns-in-1 : goal.returns-in-1
-returns-in-1 c =
-    read-lasts _ (rw (c.single.ensures, c.single_offset.ensures) (reads-single _ c.kind.ensures c.in-1.is))
+pub returns-in-Single : goal.returns-in-Single
+returns-in-Single c =
+    read-lasts _ (sym c.in-Single.is ∙ c.read.ensures)
     (c.single_duration.ensures _)
 
-pub returns-in-2 : goal.returns-in-2
-returns-in-2 c = read-lasts _ (rw c.block.ensures (reads-block _ c.kind.ensures c.in-2.is)) (c.block_duration.ensures _)
+pub returns-in-Block : goal.returns-in-Block
+returns-in-Block c = read-lasts _ (sym c.in-Block.is ∙ c.read.ensures) (c.block_duration.ensures _)
 
-pub returns-in-3 : goal.returns-in-3
-returns-in-3 c = read-lasts _ (reads-branch _ c.kind.ensures c.in-3.is) (branch-lasts _ _ c.with_refills.ensures)
+pub returns-in-Branch : goal.returns-in-Branch
+returns-in-Branch c = read-lasts _ (sym c.in-Branch.is ∙ c.read.ensures) (branch-lasts _ _ c.with_refills.ensures)
 
-pub returns-in-4 : goal.returns-in-4
-returns-in-4 c = read-lasts _ (rw c.multiply.ensures (reads-multiply _ c.kind.ensures c.in-4.is)) (multiply-lasts c.multiply.result _ c.multiply_steps.ensures)
+pub returns-in-Multiply : goal.returns-in-Multiply
+returns-in-Multiply c = read-lasts _ (sym c.in-Multiply.is ∙ c.read.ensures) (multiply-lasts c.in-Multiply.i _ c.multiply_steps.ensures)
 
-pub returns-in_default : goal.returns-in_default
-returns-in_default c =
-    let (((((_, n0), n1), n2), n3), n4) = c.in_default.in_default-own.rest in
-    read-lasts _ (reads_other _ c.kind.ensures n0 n1 n2 n3 n4) (other-lasts _ _)
+pub returns-in-Other : goal.returns-in-Other
+returns-in-Other c =
+    read-lasts _ (sym c.in-Other.is ∙ c.read.ensures) (other-lasts _ _)
