@@ -1,16 +1,14 @@
--- The report is at most 290 bytes, so that the buffer holds all of it. Assumes nothing.
-use mathlib.Core.Path.{◌≡◌, ap, ◌∙◌}
+-- The report is at most 290 bytes, so that a text holds all of it. Assumes nothing.
+use mathlib.Core.Path.{◌≡◌, sym, ap, ◌∙◌}
 use mathlib.Core.Bool.{Bool, true, false}
-use mathlib.Core.List.{List, ◌++◌}
-use Prim.Native.Nat.{ℕ, ◌+◌, ◌≤◌}
+use mathlib.Core.List.{List, [], ◌++◌}
+use Prim.Native.Nat.{ℕ, ◌≤◌}
 use native.Mathlib.Omega.{arith}
-use native.Mathlib.Nat.{zero-add}
-use lib.ListN.{length, take, drop, length-append}
-use lib.Seq.{sets, sets-eq, take-append_seam}
+use lib.ListN.{length, length-append}
 use Rattle.bits.specs.Choice.{pick}
 use Rattle.text.specs.Text.{decimal_digits}
-use Rattle.text.specs.Output.{Output, output, put}
-use Rattle.text.proofs.Put.{put-sets}
+use Rattle.text.specs.Output.{put}
+use Rattle.text.proofs.Put.{put-fits}
 use Rattle.text.proofs.Digits.{hex-length, decimal-length}
 use Rattle.cycle.specs.declared.Control.{Control}
 use Rattle.report.specs.Lines.{register_line, register_lines}
@@ -38,18 +36,6 @@ report-length image = go (accepted image)
     go true = simp length-append (omega (arith, answer-length (finished image).answer, core_length (finished image).machine.registers (finished image).machine.control))
     go false = omega (arith, answer-length (begun image).answer)
 
--- what the calls leave together, with room for all of it
-pub told : (a b : List ℕ) (r : ℕ) (image text : List ℕ) → report_text image ≡ text → output b r ≡ put (output a 0) text
-    → (r ≡ length (report_text image)) × (b ≡ sets a 0 (report_text image))
-told a b r image text is e =
-    let room : 0 + length text ≤ 512 = omega (arith, report-length image, ap length is) in
-    let whole : output b r ≡ output (sets a 0 text) (0 + length text) = e ∙ put-sets a text 0 room in
-    rw is (ap (λ (o : Output). o.end) whole ∙ zero-add (length text), ap (λ (o : Output). o.bytes) whole)
-
--- the report lies within a buffer of 512 bytes, and is what stands there
-pub within : (a b : List ℕ) (r : ℕ) (image : List ℕ) → length a ≡ 512 → r ≡ length (report_text image) → b ≡ sets a 0 (report_text image)
-    → (r ≤ length b) × (take r b ≡ report_text image)
-within a b r image l n e =
-    let room : 0 + length (report_text image) ≤ length a = omega (arith, report-length image) in
-    let stored : b ≡ report_text image ++ drop (0 + length (report_text image)) a = e ∙ sets-eq (report_text image) a 0 room in
-    (omega (arith, simp length-append at (ap length stored)), rw (n, stored) (take-append_seam (report_text image) _))
+-- what the calls leave together in a new text, which has room for all of it
+pub whole : {text lines : List ℕ} (image : List ℕ) → report_text image ≡ lines → text ≡ put [] lines → text ≡ report_text image
+whole image is e = e ∙ ap (put []) (sym is) ∙ put-fits [] (report_text image) (omega (arith, report-length image))

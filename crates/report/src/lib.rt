@@ -3,13 +3,13 @@
 
 mod lines;
 
-ghost use Rattle.std.specs.Prelude.{◌≡◌, length};
-ghost use Rattle.std.proofs.lemmas.List.Edits.{sets};
-ghost use Rattle.text.specs.Output.{output, put};
+ghost use Rattle.std.specs.Prelude.{◌≡◌};
+ghost use Rattle.text.specs.Output.{put};
 ghost use Rattle.report.specs.Report.{answer_line, core_lines, report_text, image_after};
 
 use lines::{decimal_line, hex_line, register_lines};
 use pipeline::Core;
+use text::Text;
 
 // How many cycles the run may take (the paper's).
 const BUDGET: u64 = 64;
@@ -17,46 +17,43 @@ const BUDGET: u64 = 64;
 // Standard output's number.
 const STDOUT: i32 = 1;
 
-fn answer_line(out: &mut [u8; 512], at: usize, answer: u32) -> usize
-    ensures { output out.new result ≡ put (output out.old at) (answer_line answer) }
+#[tactic(auto, unfolding(crate::specs::Report::answer_line))]
+fn answer_line(text: &mut Text, answer: u32)
+    ensures { text.new ≡ put text.old (answer_line answer) }
 {
-    decimal_line(out, at, b"answer=", answer as u64)
+    decimal_line(text, b"answer=", answer as u64);
 }
 
-fn core_lines(out: &mut [u8; 512], at: usize, core: Core) -> usize
-    ensures { output out.new result ≡ put (output out.old at) (core_lines core.registers core.control) }
+fn core_lines(text: &mut Text, core: &Core)
+    ensures { text.new ≡ put text.old (core_lines core.now.registers core.now.control) }
 {
-    let control = core.control;
-    let registers = core.registers;
-    let pc = hex_line(out, at, b"pc=", control.pipe.pc, 8);
-    let cycles = decimal_line(out, pc, b"cycles=", control.counts.cycles);
-    let retired = decimal_line(out, cycles, b"retired=", control.counts.retired);
-    let flags = hex_line(out, retired, b"flags=", control.flags, 1);
-    register_lines(out, flags, &registers)
+    let control = &core.control;
+    hex_line(text, b"pc=", control.pipe.pc, 8);
+    decimal_line(text, b"cycles=", control.counts.cycles);
+    decimal_line(text, b"retired=", control.counts.retired);
+    hex_line(text, b"flags=", control.flags, 1);
+    register_lines(text, &core.registers);
 }
 
 // An image that the start refuses leaves its answer's line only.
-pub fn report(image: &mut [u8], out: &mut [u8; 512]) -> usize
-    ensures length { result ≡ length (report_text image.old) }
-    ensures text { out.new ≡ sets out.old 0 (report_text image.old) }
+pub fn report(image: &mut [u8]) -> Text
+    ensures text { result ≡ report_text image.old }
     ensures image { image.new ≡ image_after image.old }
 {
+    let mut text = Text::new();
     let begun = Core::start([0; 15], 0, 0, image);
     let refusal = begun.answer;
     if refusal != 0 {
-        return answer_line(out, 0, refusal);
+        answer_line(&mut text, refusal);
+        return text;
     }
-    let core = begun.core;
-    let ran = core.run(image, BUDGET);
-    let answer = ran.answer;
-    let after = ran.core;
-    let end = answer_line(out, 0, answer);
-    core_lines(out, end, after)
+    let ran = begun.core.run(image, BUDGET);
+    answer_line(&mut text, ran.answer);
+    core_lines(&mut text, &ran.core);
+    text
 }
 
 // On standard output.
 pub fn print(image: &mut [u8]) {
-    let mut out = [0u8; 512];
-    let end = report(image, &mut out);
-    io::write_all(STDOUT, &out[..end]);
+    io::write_all(STDOUT, report(image).as_slice());
 }

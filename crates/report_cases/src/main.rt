@@ -4,9 +4,10 @@
 use tokens::{buffer, print, token};
 
 fn main() {
-    let mut left = tokens::CASES;
-    while left > 0 && case() {
-        left -= 1;
+    for _ in 0..tokens::CASES {
+        if !case() {
+            break;
+        }
     }
 }
 

@@ -6,17 +6,22 @@ use Prim.Native.Nat.{ℕ, zero, suc, ◌+◌, ◌-◌, ◌*◌, ◌/◌, ◌%◌
 use native.Mathlib.Nat.{pow-suc}
 use native.Mathlib.Numerals.{sub-one}
 use native.Mathlib.Omega.{arith}
-use borrow.Author.Tests.{lt-ltb}
+use borrow.Author.Tests.{lt-ltb, le-ltb}
 use lib.Dec.{ltb}
 use lib.ListN.{length, length-append}
 use Rattle.bits.specs.Choice.{pick}
 use Rattle.text.specs.Digit.{digit}
 use Rattle.text.specs.Text.{hex_digits, decimal_digits, decimal}
+use Rattle.text.proofs.Put.{puts}
 
 pub hex-length : (k n : ℕ) → length (hex_digits k n) ≡ k
 unfolding hex_digits
 hex-length zero n = refl
 hex-length (suc k) n = simp length-append (omega (arith, hex-length k (n / 16)))
+
+pub hex-none : (k n : ℕ) → k ≡ 0 → hex_digits k n ≡ []
+unfolding hex_digits
+hex-none k n h = rw h
 
 -- the last digit of a number, after the others
 pub hex-last : (k n : ℕ) → (k ≡ 0 → ⊥) → hex_digits k n ≡ hex_digits (k - 1) (n / 16) ++ (digit (n % 16) ∷ [])
@@ -42,9 +47,19 @@ decimal-more (suc k) n h =
     let less : n / 10 < 10 ^ suc k = omega arith in
     rw (decimal-more k (n / 10) less)
 
--- the last digit of a number, after the others
-pub decimal-tens : (n : ℕ) → n < 2 ^ 64 → decimal n ≡ pick (ltb n 10) [] (decimal (n / 10)) ++ (digit (n % 10 % 16) ∷ [])
+-- a number below 10 is its one digit
+pub decimal-below : (n : ℕ) → n < 10 → decimal n ≡ digit (n % 10 % 16) ∷ []
 unfolding decimal_digits
-decimal-tens n h =
+decimal-below n h =
     let small : n % 10 % 16 ≡ n % 10 = omega arith in
-    rw (decimal-more 18 (n / 10) (omega arith), small)
+    rw (lt-ltb n 10 h, small)
+
+-- the last digit of another, after the others
+pub decimal-tens : (n : ℕ) → 10 ≤ n → n < 2 ^ 64 → decimal n ≡ decimal (n / 10) ++ (digit (n % 10 % 16) ∷ [])
+unfolding decimal_digits
+decimal-tens n h fits =
+    let small : n % 10 % 16 ≡ n % 10 = omega arith in
+    rw (le-ltb n 10 h, decimal-more 18 (n / 10) (omega arith), small)
+
+-- what a number's digits are, beside what is put
+pub ruleset digits = (hex-none, hex-last, decimal-below, decimal-tens, puts)

@@ -1,4 +1,6 @@
 // Text and numbers on standard output.
+use text::Text;
+
 // Standard output's number.
 const STDOUT: i32 = 1;
 
@@ -8,10 +10,10 @@ pub fn bytes(text: &[u8]) {
 
 // A name and the lowest hexadecimal digits of a value, as many as asked for.
 pub fn field(name: &[u8], value: u32, digits: usize) {
-    let mut out = [0u8; 512];
-    let named = text::literal(&mut out, 0, name);
-    let end = text::hex(&mut out, named, value, digits);
-    bytes(&out[..end]);
+    let mut text = Text::new();
+    text.literal(name);
+    text.hex(value, digits);
+    bytes(text.as_slice());
 }
 
 // The next token of a line.

@@ -1,5 +1,6 @@
 // A token of input: a word as eight hexadecimal digits, and a byte that ends it.
-ghost use Rattle.std.specs.Prelude.{◌≡◌, ◌≤◌};
+ghost use Rattle.std.specs.Prelude.{◌≡◌, ◌≤◌, ◌%◌};
+ghost use Rattle.text.specs.Digit.{value_of};
 ghost use Rattle.tokens.specs.Token.{pair_of, word_of};
 
 use text::digit::value_of;
@@ -32,5 +33,12 @@ fn pair(high: u8, low: u8) -> u32
     ensures value { result ≡ pair_of high low }
     ensures upper_bound { result ≤ 255 }
 {
-    value_of(high) % 16 * 16 + value_of(low) % 16
+    digit(high) * 16 + digit(low)
+}
+
+// A byte that is no digit counts as 0.
+fn digit(byte: u8) -> u32
+    ensures { result ≡ value_of byte % 16 }
+{
+    value_of(byte).unwrap_or(0) as u32
 }

@@ -1,5 +1,5 @@
 -- A decimal number: all digits but the last by the call of itself, then the last. The measure is the number. Assumes nothing.
-use Rattle.text.proofs.+decimal.Given as goal
+use Rattle.text.proofs.Text.+decimal.Given as goal
 
 abbrev pub decreases-decimal : goal.decreases-decimal
 decreases-decimal l = l.n
