@@ -1,10 +1,10 @@
--- Arrays of a known length, word by word; what words put leave of an array's length. Assumes nothing.
-use Prim.Native.Nat.{ℕ, zero, suc, ◌+◌, ◌≤◌, ◌<◌}
-use mathlib.Core.Path.{◌≡◌, refl, ap, subst, ◌∙◌}
+-- Arrays of a known length, word by word. Assumes nothing.
+use Prim.Native.Nat.{ℕ, zero, suc, ◌<◌}
+use mathlib.Core.Path.{◌≡◌, refl, ap, subst}
 use mathlib.Core.List.{List, [], ◌∷◌, ◌++◌}
 use native.Mathlib.Omega.{arith}
-use lib.ListN.{length, set, length-set}
-use Rattle.arrays.specs.Words.{at, put, firsts}
+use lib.ListN.{length}
+use Rattle.arrays.specs.Words.{at, firsts}
 
 firsts-all : (n : ℕ) (l : List ℕ) → length l ≡ n → firsts n (λ k. at l k) ≡ l
 firsts-all zero [] h = refl
@@ -21,12 +21,3 @@ pub firsts_at : (n : ℕ) (f : ℕ → ℕ) (l : List ℕ) (k : ℕ) → k < n �
 firsts_at zero f l k h = absurd (omega arith)
 firsts_at (suc n) f l zero h = refl
 firsts_at (suc n) f l (suc k) h = firsts_at n (λ j. f (suc j)) l k (omega arith)
-
--- words put leave as many
-pub put-length : (words : List ℕ) (n : ℕ) (new : List ℕ) → length (put words n new) ≡ length words
-put-length words n [] = refl
-put-length words n (word ∷ rest) = put-length (set words n word) (n + 1) rest ∙ length-set words n word
-
--- there is room for the next of 15 words after the first n of them are put
-pub room : (words registers : List ℕ) (n : ℕ) → 15 ≤ length words → n < 15 → n < length (put words 0 (firsts n (at registers)))
-room words registers n h l = let e = put-length words 0 (firsts n (at registers)) in omega arith

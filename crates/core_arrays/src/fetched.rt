@@ -1,42 +1,27 @@
 // A fetched word as two words.
-ghost use Rattle.std.specs.Prelude.{◌≡◌, ◌+◌, ◌<◌};
-ghost use Rattle.arrays.specs.Words.{put};
-ghost use Rattle.core_arrays.specs.Fetched.{fetched_words, fetched_at, stands_at};
-ghost use Rattle.core_arrays.specs.Places.{core_word_count};
+ghost use Rattle.std.specs.Prelude.{◌≡◌};
+ghost use Rattle.core_arrays.specs.Fetched.{fetched_words, fetched_of, stands_for_fetched};
 
-use crate::CoreArray;
-
-pub fn put_fetched(words: &mut CoreArray, at: usize, f: Option<u32>)
-    requires { at + 1 < core_word_count }
-    ensures { words.new ≡ put words.old at (fetched_words f) }
+pub fn fetched_words(f: Option<u32>) -> [u32; 2]
+    ensures { result ≡ fetched_words f }
 {
     match f {
-        Some(word) => {
-            words[at] = word;
-            words[at + 1] = 1;
-        }
-        None => {
-            words[at] = 0;
-            words[at + 1] = 0;
-        }
+        Some(word) => [word, 1],
+        None => [0, 0],
     }
 }
 
-pub fn fetched_at(words: &CoreArray, at: usize) -> Option<u32>
-    requires { at + 1 < core_word_count }
-    ensures { result ≡ fetched_at words.now at }
+pub fn fetched_of(word: u32, valid: u32) -> Option<u32>
+    ensures { result ≡ fetched_of word valid }
 {
-    if words[at + 1] == 0 {
-        None
-    } else {
-        Some(words[at])
+    match valid {
+        0 => None,
+        _ => Some(word),
     }
 }
 
-pub fn stands_at(words: &CoreArray, at: usize) -> bool
-    requires { at + 1 < core_word_count }
-    ensures { result ≡ stands_at words.now at }
+pub fn stands_for_fetched(word: u32, valid: u32) -> bool
+    ensures { result ≡ stands_for_fetched word valid }
 {
-    let valid = words[at + 1];
-    (valid == 1) | ((valid == 0) & (words[at] == 0))
+    matches!((word, valid), (_, 1) | (0, 0))
 }

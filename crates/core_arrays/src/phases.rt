@@ -12,21 +12,17 @@ pub fn phase_number(phase: Phase) -> u32
         Phase::Step1 => 0,
         Phase::Refill1 => 1,
         Phase::Refill2 => 2,
-        Phase::Later(k) => std::num::wrapping_add_u32(k, 3),
+        Phase::Later(k) => k.wrapping_add(3),
     }
 }
 
 pub fn phase_of(n: u32) -> Phase
     ensures { result ≡ phase_of n }
 {
-    if n == 0 {
-        return Phase::Step1;
+    match n {
+        0 => Phase::Step1,
+        1 => Phase::Refill1,
+        2 => Phase::Refill2,
+        _ => Phase::Later(n - 3),
     }
-    if n == 1 {
-        return Phase::Refill1;
-    }
-    if n == 2 {
-        return Phase::Refill2;
-    }
-    Phase::Later(n - 3)
 }

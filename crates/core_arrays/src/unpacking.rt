@@ -3,8 +3,8 @@ ghost use Rattle.std.specs.Prelude.{◌≡◌};
 ghost use Rattle.core_arrays.specs.CoreArray.{control_of, unpacked, stands_for_core, length_in};
 
 use crate::CoreArray;
-use crate::counts::count_at;
-use crate::fetched::{fetched_at, stands_at};
+use crate::counts::joined;
+use crate::fetched::{fetched_of, stands_for_fetched};
 use crate::phases::phase_of;
 use arrays::registers_of;
 use cycle::{Control, Counts, Pipe};
@@ -15,46 +15,48 @@ use steps::Latches;
 fn control_of(words: &CoreArray) -> Control
     ensures { result ≡ control_of words.now }
 {
-    let pipe = Pipe {
-        pc: words[15],
-        ir1: fetched_at(words, 17),
-        ir2: fetched_at(words, 19),
-        ix: fetched_at(words, 21),
-    };
-    let latches = Latches {
-        address: words[24],
-        datum: words[25],
-        base: words[26],
-    };
-    let counts = Counts {
-        cycles: count_at(words, 27),
-        retired: count_at(words, 29),
-    };
-    let size = length_in(words);
-    let board = Board { size };
     Control {
         flags: words[16],
-        pipe,
+        pipe: Pipe {
+            pc: words[15],
+            ir1: fetched_of(words[17], words[18]),
+            ir2: fetched_of(words[19], words[20]),
+            ix: fetched_of(words[21], words[22]),
+        },
         phase: phase_of(words[23]),
-        latches,
-        counts,
+        latches: Latches {
+            address: words[24],
+            datum: words[25],
+            base: words[26],
+        },
+        counts: Counts {
+            cycles: joined(words[27], words[28]),
+            retired: joined(words[29], words[30]),
+        },
         stop: words[31],
-        board,
+        board: Board {
+            size: length_in(words),
+        },
     }
 }
 
+#[tactic(auto, unfolding(crate::specs::CoreArray::unpacked))]
 pub fn unpacked(words: &CoreArray) -> Core
     ensures { result ≡ unpacked words.now }
 {
-    let registers = registers_of(words);
-    let control = control_of(words);
-    Core { registers, control }
+    Core {
+        registers: registers_of(words),
+        control: control_of(words),
+    }
 }
 
+#[tactic(auto, unfolding(crate::specs::CoreArray::stands_for_core))]
 pub fn stands_for_core(words: &CoreArray) -> bool
     ensures { result ≡ stands_for_core words.now }
 {
-    stands_at(words, 17) & (stands_at(words, 19) & stands_at(words, 21))
+    stands_for_fetched(words[17], words[18])
+        && stands_for_fetched(words[19], words[20])
+        && stands_for_fetched(words[21], words[22])
 }
 
 // The length of the memory that the core was started on.

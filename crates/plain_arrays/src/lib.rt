@@ -13,24 +13,22 @@ pub type PlainArray = [u32; 19];
 pub fn pack(words: &mut PlainArray, p: Plain)
     ensures { words.new ≡ packed p }
 {
-    let registers = p.registers;
-    put_registers(words, registers);
+    put_registers(words, p.registers);
     words[15] = p.a;
     words[16] = p.flags;
     words[17] = p.stop;
     words[18] = p.board.size;
 }
 
+#[tactic(auto, unfolding(crate::specs::PlainArray::unpacked))]
 pub fn unpacked(words: &PlainArray) -> Plain
     ensures { result ≡ unpacked words.now }
 {
-    let registers = registers_of(words);
-    let board = Board { size: words[18] };
     Plain {
-        registers,
+        registers: registers_of(words),
         a: words[15],
         flags: words[16],
         stop: words[17],
-        board,
+        board: Board { size: words[18] },
     }
 }

@@ -1,8 +1,7 @@
 -- Arrays that are the same; the array of a word's record and the record are inverse to each other. Assumes nothing.
-use Prim.Native.Nat.{ℕ, zero, suc, ◌+◌, ◌<◌}
-use native.Mathlib.Numerals.{add-one}
+use Prim.Native.Nat.{ℕ, zero, suc, ◌<◌}
 use native.Mathlib.Omega.{arith}
-use mathlib.Core.Path.{◌≡◌, refl, sym, subst, ◌∙◌}
+use mathlib.Core.Path.{◌≡◌, refl, sym, ap, subst, ◌∙◌}
 use mathlib.Core.Bool.{Bool, true, false, ◌&&◌, false≢true}
 use mathlib.Core.List.{List}
 use lib.Dec.{eqb}
@@ -10,6 +9,10 @@ use lib.ListN.{length}
 use lib.Seq.{ext_get_or}
 use borrow.Author.Count.{below_more}
 use borrow.Author.Tests.{eqb-true, eq-eqb}
+use Rattle.std.specs.Bool.{Decides}
+use Rattle.std.specs.Cmp.Lexicographic.{pointwise}
+use Rattle.std.proofs.lemmas.Bool.Decides.{Decides-eqb, same_from_decides}
+use Rattle.std.proofs.lemmas.Slice.Eq.{slice_eq-Decides}
 use Rattle.bits.proofs.Fields.{bit-num}
 use Rattle.word.specs.declared.Operand.{Operand}
 use Rattle.word.specs.declared.Operand.TheVariants.{Constant, ShiftByAmount, ShiftByRegister}
@@ -33,19 +36,10 @@ same_at (suc n) a b h k l =
     let parts : (same n a b ≡ true) × (eqb (at a n) (at b n) ≡ true) = parted _ _ h in
     below_more _ _ (same_at n a b parts.0) (eqb-true (at a n) (at b n) parts.1) k (omega arith)
 
-differing : (n : ℕ) (a b : List ℕ) (k : ℕ) (t : Bool) → same n a b ≡ t → k < n → (at a k ≡ at b k → ⊥) → false ≡ t
-differing n a b k true e l h = absurd (h (same_at n a b e k l))
-differing n a b k false e l h = refl
-
-pub differ : (n : ℕ) (a b : List ℕ) (k : ℕ) → k < n → (at a k ≡ at b k → ⊥) → false ≡ same n a b
-differ n a b k l h = differing n a b k (same n a b) refl l h
-
-pub one_more : (a b : List ℕ) (i : ℕ) → same i a b ≡ true → at a i ≡ at b i → same (i + 1) a b ≡ true
-unfolding same
-one_more a b i h e = rw (add-one, h) (eq-eqb _ _ e)
-
-pub all_same : (n : ℕ) (a b : List ℕ) (i : ℕ) → same i a b ≡ true → i ≡ n → true ≡ same n a b
-all_same n a b i h e = sym (subst (λ (k : ℕ). same k a b ≡ true) e h)
+-- two arrays of 16 words are the same exactly where `same` says so
+same_decides : (a b : List ℕ) → length a ≡ 16 → length b ≡ 16 → Decides (same 16 a b) (a ≡ b)
+same_decides a b l m =
+    (λ h. ext_get_or 0 a b (l ∙ sym m) (λ k n. same_at 16 a b h k (omega arith)), λ e. subst (λ (t : List ℕ). same 16 a t ≡ true) e (same_refl 16 a))
 
 -- ---- laws
 
@@ -74,9 +68,17 @@ length-of (Instruction.Other word) = refl
 
 pub record-words-back : (words : List ℕ) → length words ≡ 16 → stands_for_record words ≡ true → record_words (record_of words) ≡ words
 unfolding stands_for_record
-record-words-back words l h =
-    sym (ext_get_or 0 words (record_words (record_of words)) (l ∙ sym (length-of (record_of words)))
-    (λ k m. same_at 16 words (record_words (record_of words)) h k (omega arith)))
+record-words-back words l h = sym ((same_decides words (record_words (record_of words)) l (length-of (record_of words))).0 h)
+
+-- what `==` says of an array and of its record's array
+pub compared : (words : List ℕ) {i : Instruction} {back : List ℕ} {r : Bool} → length words ≡ 16
+    → i ≡ record_of words → back ≡ record_words i → r ≡ pointwise eqb words back → r ≡ stands_for_record words
+unfolding stands_for_record
+compared words {i} {back} {r} l e h p =
+    let whole : back ≡ record_words (record_of words) = h ∙ ap record_words e in
+    let long : length back ≡ 16 = ap length h ∙ length-of i in
+    same_from_decides r (same 16 words back) (slice_eq-Decides Decides-eqb words back r p) (same_decides words back l long)
+    ∙ ap (λ (t : List ℕ). same 16 words t) whole
 
 -- every record's array stands for it
 pub stands : (i : Instruction) → stands_for_record (record_words i) ≡ true

@@ -5,52 +5,63 @@ ghost use Rattle.record_arrays.specs.RecordArray.{quad_of, operand_of, operand_a
 use crate::{Quad, RecordArray};
 use word::Operand;
 
-fn four(kind: u32, first: u32, second: u32, third: u32) -> Quad
-    ensures { result ≡ record { kind = kind; first = first; second = second; third = third } }
-{
-    Quad {
-        kind,
-        first,
-        second,
-        third,
+impl From<Operand> for Quad {
+    ghost from_gives = { λ operand q. q ≡ quad_of operand };
+
+    fn from(operand: Operand) -> Quad {
+        match operand {
+            Operand::Constant { rotate, value } => Quad {
+                kind: 0,
+                first: rotate,
+                second: value,
+                third: 0,
+            },
+            Operand::ShiftByAmount { rm, shift, amount } => Quad {
+                kind: 1,
+                first: rm,
+                second: shift,
+                third: amount,
+            },
+            Operand::ShiftByRegister { rm, shift, rs } => Quad {
+                kind: 2,
+                first: rm,
+                second: shift,
+                third: rs,
+            },
+        }
     }
 }
 
-pub fn quad_of(operand: Operand) -> Quad
-    ensures { result ≡ quad_of operand }
-{
-    match operand {
-        Operand::Constant { rotate, value } => four(0, rotate, value, 0),
-        Operand::ShiftByAmount { rm, shift, amount } => four(1, rm, shift, amount),
-        Operand::ShiftByRegister { rm, shift, rs } => four(2, rm, shift, rs),
-    }
-}
+impl From<Quad> for Operand {
+    ghost from_gives = { λ q operand. operand ≡ operand_of q };
 
-fn operand_of(q: Quad) -> Operand
-    ensures { result ≡ operand_of q }
-{
-    if q.kind == 0 {
-        return Operand::Constant {
-            rotate: q.first,
-            value: q.second,
-        };
-    }
-    if q.kind == 1 {
-        return Operand::ShiftByAmount {
-            rm: q.first,
-            shift: q.second,
-            amount: q.third,
-        };
-    }
-    Operand::ShiftByRegister {
-        rm: q.first,
-        shift: q.second,
-        rs: q.third,
+    fn from(q: Quad) -> Operand {
+        match q.kind {
+            0 => Operand::Constant {
+                rotate: q.first,
+                value: q.second,
+            },
+            1 => Operand::ShiftByAmount {
+                rm: q.first,
+                shift: q.second,
+                amount: q.third,
+            },
+            _ => Operand::ShiftByRegister {
+                rm: q.first,
+                shift: q.second,
+                rs: q.third,
+            },
+        }
     }
 }
 
 pub fn operand_at(words: &RecordArray) -> Operand
     ensures { result ≡ operand_at words.now }
 {
-    operand_of(four(words[10], words[11], words[12], words[13]))
+    Operand::from(Quad {
+        kind: words[10],
+        first: words[11],
+        second: words[12],
+        third: words[13],
+    })
 }

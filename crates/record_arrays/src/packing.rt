@@ -2,23 +2,20 @@
 ghost use Rattle.std.specs.Prelude.{◌≡◌};
 ghost use Rattle.record_arrays.specs.RecordArray.{quad_of, processing_words, single_words, block_words, branch_words, multiply_words, record_words};
 
-use crate::RecordArray;
-use crate::operand::quad_of;
-use bits::number;
+use crate::{Quad, RecordArray};
 use word::{Block, Branch, Instruction, Multiply, Processing, Single};
 
 fn processing_words(i: Processing) -> RecordArray
     ensures { result ≡ processing_words i (quad_of i.operand) }
 {
-    let operand = i.operand;
-    let q = quad_of(operand);
+    let q = Quad::from(i.operand);
     [
         0,
         i.condition,
         i.operation,
         0,
         0,
-        number(i.s),
+        u32::from(i.s),
         0,
         0,
         i.rn,
@@ -35,17 +32,16 @@ fn processing_words(i: Processing) -> RecordArray
 fn single_words(i: Single) -> RecordArray
     ensures { result ≡ single_words i (quad_of i.offset) }
 {
-    let offset = i.offset;
-    let q = quad_of(offset);
+    let q = Quad::from(i.offset);
     [
         1,
         i.condition,
         0,
-        number(i.p),
-        number(i.u),
-        number(i.b),
-        number(i.w),
-        number(i.l),
+        u32::from(i.p),
+        u32::from(i.u),
+        u32::from(i.b),
+        u32::from(i.w),
+        u32::from(i.l),
         i.rn,
         i.rd,
         q.kind,
@@ -64,11 +60,11 @@ fn block_words(i: Block) -> RecordArray
         2,
         i.condition,
         0,
-        number(i.p),
-        number(i.u),
-        number(i.s),
-        number(i.w),
-        number(i.l),
+        u32::from(i.p),
+        u32::from(i.u),
+        u32::from(i.s),
+        u32::from(i.w),
+        u32::from(i.l),
         i.rn,
         0,
         0,
@@ -83,7 +79,6 @@ fn block_words(i: Block) -> RecordArray
 fn branch_words(i: Branch) -> RecordArray
     ensures { result ≡ branch_words i }
 {
-    let link = number(i.link);
     [
         3,
         i.condition,
@@ -92,7 +87,7 @@ fn branch_words(i: Branch) -> RecordArray
         0,
         0,
         0,
-        link,
+        u32::from(i.link),
         0,
         0,
         0,
@@ -113,8 +108,8 @@ fn multiply_words(i: Multiply) -> RecordArray
         0,
         0,
         0,
-        number(i.s),
-        number(i.accumulate),
+        u32::from(i.s),
+        u32::from(i.accumulate),
         0,
         i.rn,
         i.rd,
@@ -127,6 +122,7 @@ fn multiply_words(i: Multiply) -> RecordArray
     ]
 }
 
+#[tactic(auto, unfolding(crate::specs::RecordArray::record_words))]
 pub fn record_words(i: Instruction) -> RecordArray
     ensures { result ≡ record_words i }
 {

@@ -9,21 +9,19 @@ use word::{Block, Branch, Instruction, Multiply, Processing, Single};
 fn processing_of(words: &RecordArray) -> Processing
     ensures { result ≡ processing_of words.now }
 {
-    let operand = operand_at(words);
     Processing {
         condition: words[1],
         operation: words[2],
         s: words[5] == 1,
         rn: words[8],
         rd: words[9],
-        operand,
+        operand: operand_at(words),
     }
 }
 
 fn single_of(words: &RecordArray) -> Single
     ensures { result ≡ single_of words.now }
 {
-    let offset = operand_at(words);
     Single {
         condition: words[1],
         p: words[3] == 1,
@@ -33,7 +31,7 @@ fn single_of(words: &RecordArray) -> Single
         l: words[7] == 1,
         rn: words[8],
         rd: words[9],
-        offset,
+        offset: operand_at(words),
     }
 }
 
@@ -76,24 +74,16 @@ fn multiply_of(words: &RecordArray) -> Multiply
     }
 }
 
+#[tactic(auto, unfolding(crate::specs::RecordArray::record_of))]
 pub fn record_of(words: &RecordArray) -> Instruction
     ensures { result ≡ record_of words.now }
 {
-    let class = words[0];
-    if class == 0 {
-        return Instruction::Processing(processing_of(words));
+    match words[0] {
+        0 => Instruction::Processing(processing_of(words)),
+        1 => Instruction::Single(single_of(words)),
+        2 => Instruction::Block(block_of(words)),
+        3 => Instruction::Branch(branch_of(words)),
+        5 => Instruction::Multiply(multiply_of(words)),
+        _ => Instruction::Other(words[14]),
     }
-    if class == 1 {
-        return Instruction::Single(single_of(words));
-    }
-    if class == 2 {
-        return Instruction::Block(block_of(words));
-    }
-    if class == 3 {
-        return Instruction::Branch(branch_of(words));
-    }
-    if class == 5 {
-        return Instruction::Multiply(multiply_of(words));
-    }
-    Instruction::Other(words[14])
 }

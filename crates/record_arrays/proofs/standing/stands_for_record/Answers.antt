@@ -1,6 +1,6 @@
-use Rattle.record_arrays.specs.RecordArray.{stands_for_record}
+use Rattle.std.proofs.Common.{rules}
+use Rattle.record_arrays.proofs.RecordLaws.{compared}
 use Rattle.record_arrays.proofs.standing.stands_for_record.Goals as goal
 
 pub returns : goal.returns
-unfolding stands_for_record
-returns c = simp (c.same.ensures, c.record_words-back.ensures, c.record_of.ensures)
+returns c = compared c.args.words.now (search rules) c.record_of.ensures c.record_words.ensures c.eq.ensures
