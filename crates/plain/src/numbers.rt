@@ -3,7 +3,9 @@ ghost use Rattle.std.specs.Prelude.{◌≡◌};
 ghost use Rattle.plain.specs.Numbers.{bad_length, bad_entry, bad_flags, start_answer, is_stop, is_counter, bad, bad_budget, refusal};
 
 use crate::Plain;
-use crate::refused::{BUDGET_REFUSED, ENTRY_REFUSED, FLAGS_REFUSED, LENGTH_REFUSED, OTHER_MEMORY, RECORD_REFUSED};
+use crate::refused::{
+    BUDGET_REFUSED, ENTRY_REFUSED, FLAGS_REFUSED, LENGTH_REFUSED, OTHER_MEMORY, RECORD_REFUSED,
+};
 use datapath::counter::COUNTERS;
 use stops::{FETCHED_WORD, NO_WORD};
 

@@ -5,7 +5,9 @@ ghost use Rattle.word.specs.declared.Instruction.{Instruction};
 ghost use Rattle.word.specs.Reader.{read_of};
 ghost use Rattle.semantics.specs.Duration.{with_refills, duration_of};
 
-use crate::own_steps::{BRANCH_STEPS, REFILLS, block_steps, multiply_steps, processing_steps, single_steps};
+use crate::own_steps::{
+    BRANCH_STEPS, REFILLS, block_steps, multiply_steps, processing_steps, single_steps,
+};
 use bits::bit;
 use datapath::alu::stores_result;
 use word::{Block, Instruction, Processing, Single, reader};

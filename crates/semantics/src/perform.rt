@@ -14,7 +14,10 @@ ghost use Rattle.semantics.specs.Perform.{result_of, performed, stopped_at, done
 
 use crate::Performed;
 use crate::branch::branch;
-use crate::own_steps::{BRANCH_STEPS, REFILLS, SKIPPED_STEPS, block_steps, multiply_steps, processing_steps, single_steps};
+use crate::own_steps::{
+    BRANCH_STEPS, REFILLS, SKIPPED_STEPS, block_steps, multiply_steps, processing_steps,
+    single_steps,
+};
 use bits::field;
 use condition::passes;
 use datapath::counter::{ahead, counter};

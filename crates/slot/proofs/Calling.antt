@@ -5,7 +5,8 @@ use mathlib.Core.Bool.{true, false}
 use mathlib.Core.List.{List}
 use lib.ListN.{length}
 use borrow.Author.Tests.{ne_eqb}
-use Rattle.writer.specs.declared.Written.{Written}
+use Rattle.std.specs.Prelude.{Result}
+use Rattle.writer.specs.declared.NoWord.{NoWord}
 use Rattle.writer.specs.Writer.{Answer, answer_of, write_of}
 use Rattle.word.specs.declared.Instruction.{Instruction}
 use Rattle.pipeline.specs.declared.Core.{Core}
@@ -94,7 +95,7 @@ pub no_word_there : (words : List ℕ) → stands_for_record words ≡ false →
 unfolding word_of
 no_word_there words h = rw h
 
-pub its-word : (words : List ℕ) {i : Instruction} (m : Written) {a : Answer} → stands_for_record words ≡ true → i ≡ record_of words
+pub its-word : (words : List ℕ) {i : Instruction} (m : Result ℕ NoWord) {a : Answer} → stands_for_record words ≡ true → i ≡ record_of words
     → answer_of m ≡ write_of i → a ≡ answer_of m → a ≡ word_of words
 unfolding word_of
 its-word words m s e w h = h ∙ (w ∙ (ap write_of e ∙ rw s))

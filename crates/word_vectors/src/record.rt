@@ -1,7 +1,7 @@
 // A word's record, field by field.
 use tokens::print::{bytes, field};
 use word::{Block, Branch, Instruction, Multiply, Operand, Processing, Single};
-use writer::Written;
+use writer::NoWord;
 
 pub fn report(word: u32) {
     let i = word::reader::read(word);
@@ -93,11 +93,11 @@ fn operand(o: Operand) {
     }
 }
 
-// A refusal is number 5 and word 0.
-fn answer(written: Written) {
+// A refusal has its number and word 0.
+fn answer(written: Result<u32, NoWord>) {
     match written {
-        Written::Word(word) => ending(0, word),
-        Written::Refused => ending(5, 0),
+        Ok(word) => ending(0, word),
+        Err(refusal) => ending(refusal.into(), 0),
     }
 }
 

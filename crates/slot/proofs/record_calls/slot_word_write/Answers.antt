@@ -5,12 +5,12 @@ use Rattle.slot.proofs.record_calls.slot_word_write.Goals as goal
 pub returns-then-not-stands_for_record : goal.returns-then-not-stands_for_record
 returns-then-not-stands_for_record c = no_word_there _ (sym c.stands_for_record.ensures ∙ c.if-not-stands_for_record.true)
 
-pub returns-in-Some : goal.returns-in-Some
-returns-in-Some c =
+pub returns-in-Ok : goal.returns-in-Ok
+returns-in-Ok c =
     its-word _ c.write.result (sym c.stands_for_record.ensures ∙ c.if-not-stands_for_record.false) c.record_of.ensures c.write.ensures
-    (simp (c.in-Some.is, c.in-Some.is))
+    (rw c.in-Ok.is)
 
-pub returns-in-Refused : goal.returns-in-Refused
-returns-in-Refused c =
+pub returns-in-Err : goal.returns-in-Err
+returns-in-Err c =
     its-word _ c.write.result (sym c.stands_for_record.ensures ∙ c.if-not-stands_for_record.false) c.record_of.ensures c.write.ensures
-    (simp (c.in-Refused.is, c.in-Refused.is))
+    (rw (c.in-Err.is, c.into.ensures))
