@@ -8,7 +8,7 @@ use native.Mathlib.Omega.{arith}
 use lib.Count.{count_leading_zeros, leading_of_zero, leading_top}
 use lib.Dec.{ltb}
 use lib.Pow.{pow_mono}
-use borrow.Author.Tests.{ltb-true, ltb-false, lt-ltb, le-ltb}
+use borrow.Author.Tests.{ltb-true, ltb-false, lt-ltb}
 use Rattle.bits.specs.Choice.{pick}
 use Rattle.multiply.specs.InternalCycles.{first_above, m_of, Ranges, InternalCycles}
 
