@@ -12,7 +12,7 @@ use condition::passes;
 use steps::ending::still;
 use steps::first::first_step;
 use steps::later::later_step;
-use steps::{After, Ended, Phase, Step};
+use steps::{After, Ended, Found, Phase, Step};
 
 // How a failed condition ends, at A+8 in pc: its one step is done, and the counter goes on.
 fn skips(pc: u32) -> After
@@ -43,10 +43,16 @@ fn step_under_way(c: Control, k: u32, registers: &mut [u32; 15], memory: &mut [u
 {
     let pipe = c.pipe;
     let ix = pipe.ix;
-    let l = c.latches;
-    let board = c.board;
     match ix {
-        Some(word) => later_step(word, k, registers, memory, c.flags, pipe.pc, l, board),
+        Some(word) => {
+            let found = Found {
+                flags: c.flags,
+                pc: pipe.pc,
+                latches: c.latches,
+                board: c.board,
+            };
+            later_step(word, k, registers, memory, found)
+        }
         None => still(c.flags, After::Done(Ended::Start)),
     }
 }

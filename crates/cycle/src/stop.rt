@@ -1,12 +1,15 @@
 // The stop found before step 1.
 ghost use Rattle.std.specs.Prelude.{◌≡◌, List, ℕ};
+ghost use Rattle.stops.specs.Numbers.{stop_number};
 ghost use Rattle.cycle.specs.Machine.{machine};
 ghost use Rattle.cycle.specs.StopFound.{is_step1};
 ghost use Rattle.cycle.specs.StopFound.{stop_found};
 
 use crate::Control;
 use datapath::counter::behind;
+use registers::Context;
 use steps::Phase;
+use stops::reason::Stop;
 use stops::stop::stop_for;
 
 pub fn is_step1(phase: Phase) -> bool
@@ -16,16 +19,21 @@ pub fn is_step1(phase: Phase) -> bool
 }
 
 // A stop is found before step 1 and nowhere else.
-pub fn stop_found(c: Control, registers: &[u32; 15]) -> u32
-    ensures { (mem : List ℕ) → result ≡ stop_found (machine registers.now c mem) }
+pub fn stop_found(c: Control, registers: &[u32; 15]) -> Result<(), Stop>
+    ensures { (mem : List ℕ) → stop_number result ≡ stop_found (machine registers.now c mem) }
 {
     let phase = c.phase;
     if is_step1(phase) {
         let pipe = c.pipe;
         let ix = pipe.ix;
         let board = c.board;
-        stop_for(ix, registers, c.flags, behind(pipe.pc, 8), board)
+        let found = Context {
+            flags: c.flags,
+            a: behind(pipe.pc, 8),
+            board,
+        };
+        stop_for(ix, registers, found)
     } else {
-        0
+        Ok(())
     }
 }

@@ -2,19 +2,22 @@
 use Rattle.std.specs.Prelude.{ℕ, List, eqb, length, replicate, None}
 use Rattle.bits.specs.Choice.{pick}
 use Rattle.plain.specs.Numbers.{start_answer}
-use Rattle.plain.specs.Running.{Ran, unless}
+use Rattle.plain.specs.Running.{Ran, Started, started, unless}
 use Rattle.steps.specs.declared.Phase.TheVariants.{Step1}
 use Rattle.steps.specs.Steps.{idle}
 use Rattle.cycle.specs.declared.Control.{Control}
-use Rattle.cycle.specs.Machine.{Machine, pipe, counts}
+use Rattle.cycle.specs.Machine.{Machine, machine, pipe, counts}
 use Rattle.cycle.specs.Fresh.{fresh_control}
 use Rattle.refusals.specs.Numbers.{refusal}
 use Rattle.runs.specs.Run.{run_from}
 use Rattle.pipeline.specs.declared.Core.{Core}
-use Rattle.pipeline.specs.declared.CoreStarted.{CoreStarted}
 
 abbrev pub core : List ℕ → Control → Core
 core g c = record { registers = g; control = c }
+
+-- a core with the bytes that it is lent
+abbrev pub seen : List ℕ → Core → Machine
+seen mem c = machine c.registers c.control mem
 
 -- a zeroed core, its words blank
 abbrev pub zeroed : Core
@@ -30,10 +33,10 @@ zeroed =
     })
 
 -- start tests 1, 2, 4 and changes no memory
-unfoldable pub start : List ℕ → ℕ → ℕ → List ℕ → CoreStarted
+unfoldable pub start : List ℕ → ℕ → ℕ → List ℕ → Started Core
 start g flags entry mem =
     let answer = start_answer (length mem) entry flags in
-    record { answer = answer; core = pick (eqb answer 0) (core g (fresh_control flags entry (record { size = length mem }))) zeroed }
+    started answer (pick (eqb answer 0) (core g (fresh_control flags entry (record { size = length mem }))) zeroed)
 
 -- a run that is lent so many bytes, with a budget: refused, or a stop held is repeated, or it goes on
 unfoldable pub run : ℕ → ℕ → Machine → Ran Machine

@@ -2,15 +2,16 @@
 #![tactic(auto)]
 
 ghost use Rattle.std.specs.Prelude.{◌≡◌, length};
-ghost use Rattle.cycle.specs.Machine.{machine};
-ghost use Rattle.pipeline.specs.Calls.{zeroed, start, run};
+ghost use Rattle.pipeline.specs.Calls.{zeroed, seen, start, run};
 ghost use Rattle.pipeline.specs.Settle.{settle};
-ghost use Rattle.plain.specs.Running.{ran};
+ghost use Rattle.plain.specs.Told.{started_as, ran_as};
 
 use cycle::Control;
 use cycle::fresh::fresh;
 use memory::Board;
+use plain::Ran;
 use plain::numbers::start_answer;
+use plain::refused::Refusal;
 use refusals::numbers::at_once;
 use runs::left::cycles_left;
 use runs::run::run_from;
@@ -22,22 +23,8 @@ pub struct Core {
     pub control: Control,
 }
 
-#[derive(Clone, Copy)]
-pub struct CoreStarted {
-    pub answer: u32,
-    pub core: Core,
-}
-
-// What a run hands back: its answer, the cycles it used, and the core.
-#[derive(Clone, Copy)]
-pub struct CoreRan {
-    pub answer: u32,
-    pub used: u64,
-    pub core: Core,
-}
-
 // What a refused start hands back.
-fn zeroed() -> Core
+pub fn zeroed() -> Core
     ensures { result ≡ zeroed }
 {
     let control = Control {
@@ -51,49 +38,46 @@ fn zeroed() -> Core
 }
 
 impl Core {
-    pub fn start(registers: [u32; 15], flags: u32, entry: u32, memory: &[u8]) -> CoreStarted
-        ensures { result ≡ start registers flags entry memory.now }
+    pub fn start(
+        registers: [u32; 15],
+        flags: u32,
+        entry: u32,
+        memory: &[u8],
+    ) -> Result<Core, Refusal>
+        ensures { started_as zeroed result ≡ start registers flags entry memory.now }
     {
-        let answer = start_answer(memory.len(), entry, flags);
-        if answer != 0 {
-            let core = zeroed();
-            return CoreStarted { answer, core };
-        }
+        start_answer(memory.len(), entry, flags)?;
         let size = memory.len() as u32;
         let control = fresh(flags, entry, Board { size });
-        CoreStarted {
-            answer: 0,
-            core: Core { registers, control },
-        }
+        Ok(Core { registers, control })
     }
 
     // Cycles until the budget is spent or a stop is found. A refused call changes nothing.
-    pub fn run(mut self, memory: &mut [u8], budget: u64) -> CoreRan
-        ensures { ran result.answer result.used (machine result.core.registers result.core.control memory.new) ≡ run (length memory.old) budget (machine self.registers self.control memory.old) }
+    pub fn run(mut self, memory: &mut [u8], budget: u64) -> Result<Ran<Core>, Refusal>
+        ensures { ran_as (seen memory.new) self result ≡ run (length memory.old) budget (seen memory.old self) }
     {
         let c = self.control;
-        let answer = at_once(memory.len(), budget, c, &self.registers);
-        if answer != 0 {
-            return CoreRan {
-                answer,
+        let held = at_once(memory.len(), budget, c, &self.registers)?;
+        if held.is_some() {
+            return Ok(Ran {
+                stop: held,
                 used: 0,
-                core: self,
-            };
+                machine: self,
+            });
         }
         let went = run_from(c, &mut self.registers, memory, budget);
-        let control = went.control;
-        self.control = control;
-        CoreRan {
-            answer: went.answer,
+        self.control = went.machine;
+        Ok(Ran {
+            stop: went.stop,
             used: went.used,
-            core: self,
-        }
+            machine: self,
+        })
     }
 
     // The cycles left of the instruction or refill under way, to the next boundary; no stop is found. It is the run with a
     // budget of so many: away from step 1 a run finds no stop, and at step 1 this budget is spent.
-    pub fn settle(self, memory: &mut [u8]) -> CoreRan
-        ensures { ran result.answer result.used (machine result.core.registers result.core.control memory.new) ≡ settle (length memory.old) (machine self.registers self.control memory.old) }
+    pub fn settle(self, memory: &mut [u8]) -> Result<Ran<Core>, Refusal>
+        ensures { ran_as (seen memory.new) self result ≡ settle (length memory.old) (seen memory.old self) }
     {
         let c = self.control;
         let left = cycles_left(c, &self.registers);
@@ -101,8 +85,8 @@ impl Core {
     }
 
     // One cycle, or the stop found: a run with a budget of 1.
-    pub fn cycle(self, memory: &mut [u8]) -> CoreRan
-        ensures { ran result.answer result.used (machine result.core.registers result.core.control memory.new) ≡ run (length memory.old) 1 (machine self.registers self.control memory.old) }
+    pub fn cycle(self, memory: &mut [u8]) -> Result<Ran<Core>, Refusal>
+        ensures { ran_as (seen memory.new) self result ≡ run (length memory.old) 1 (seen memory.old self) }
     {
         self.run(memory, 1)
     }

@@ -2,6 +2,7 @@ pub mod Machine
 pub mod Refused
 pub mod Numbers
 pub mod Running
+pub mod Told
 pub mod Run
 pub mod Starts
 pub mod Trace

@@ -2,10 +2,9 @@
 use Rattle.std.specs.Prelude.{ℕ, List, eqb, length, replicate}
 use Rattle.bits.specs.Choice.{pick}
 use Rattle.plain.specs.declared.Plain.{Plain}
-use Rattle.plain.specs.declared.PlainStarted.{PlainStarted}
 use Rattle.plain.specs.Machine.{Machine, plain, step}
 use Rattle.plain.specs.Numbers.{start_answer, refusal}
-use Rattle.plain.specs.Running.{Ran, Engine, runs, unless}
+use Rattle.plain.specs.Running.{Ran, Started, started, Engine, runs, unless}
 
 -- a record with everything 0: what a refused start hands back
 abbrev pub zeroed : Plain
@@ -14,10 +13,10 @@ zeroed = plain (replicate 15 0) 0 0 0 (record { size = 0 })
 abbrev pub begun : List ℕ → ℕ → ℕ → List ℕ → Plain
 begun g flags entry mem = plain g entry flags 0 (record { size = length mem })
 
-unfoldable pub start : List ℕ → ℕ → ℕ → List ℕ → PlainStarted
+unfoldable pub start : List ℕ → ℕ → ℕ → List ℕ → Started Plain
 start g flags entry mem =
     let answer = start_answer (length mem) entry flags in
-    record { answer = answer; plain = pick (eqb answer 0) (begun g flags entry mem) zeroed }
+    started answer (pick (eqb answer 0) (begun g flags entry mem) zeroed)
 
 -- a step finds its stop itself, and leaves it in the machine
 abbrev pub engine : Engine Machine

@@ -18,6 +18,14 @@ one_more r = ran r.answer (suc r.used) r.machine
 abbrev pub more_by : {M : Type 0} → ℕ → Ran M → Ran M
 more_by n r = ran r.answer (n + r.used) r.machine
 
+-- what a start hands back: its answer (0 where it is accepted), and the machine
+pub record Started (M : Type 0) : Type 0 where
+  pub answer : ℕ
+  pub machine : M
+
+abbrev pub started : {M : Type 0} → ℕ → M → Started M
+started answer m = record { answer = answer; machine = m }
+
 -- an engine: the stop that a machine finds, or 0; the machine a step later; the machine with that stop
 pub record Engine (M : Type 0) : Type 0 where
   pub finds : M → ℕ

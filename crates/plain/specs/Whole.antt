@@ -2,6 +2,7 @@
 use Rattle.std.specs.Prelude.{ℕ, zero, suc, ◌+◌, ◌-◌, List, leb}
 use Rattle.bits.specs.Choice.{pick}
 use Rattle.memory.specs.declared.Board.{Board}
+use Rattle.stops.specs.Numbers.{held_number}
 use Rattle.plain.specs.declared.Came.{Came}
 use Rattle.plain.specs.Machine.{Machine, machine, plain, step}
 use Rattle.plain.specs.Trace.{stop_met, duration}
@@ -37,4 +38,4 @@ abbrev pub going : List ℕ → ℕ → ℕ → Board → List ℕ → Machine
 going g flags a board mem = machine (plain g a flags 0 board) mem
 
 abbrev pub came_to : Came → List ℕ → Board → List ℕ → Wholes
-came_to r g board mem = wholes_of r.done r.used r.stop (machine (plain g r.a r.flags r.stop board) mem)
+came_to r g board mem = let stop = held_number r.stop in wholes_of r.done r.used stop (machine (plain g r.a r.flags stop board) mem)

@@ -4,7 +4,7 @@
 ghost use Rattle.std.specs.Prelude.{◌≡◌};
 ghost use Rattle.plain.specs.Machine.{machine};
 ghost use Rattle.plain.specs.Run.{zeroed, start, run};
-ghost use Rattle.plain.specs.Running.{ran};
+ghost use Rattle.plain.specs.Told.{started_as, ran_as};
 
 pub mod numbers;
 pub mod refused;
@@ -12,6 +12,8 @@ pub mod whole;
 
 use memory::Board;
 use numbers::{refusal, start_answer};
+use refused::Refusal;
+use stops::reason::{Stop, number};
 use whole::{LONGEST, wholes};
 
 #[derive(Clone, Copy)]
@@ -23,23 +25,18 @@ pub struct Plain {
     pub board: Board,
 }
 
+// What an accepted run hands back: the stop that ended it, if one did; the steps that it counted; and the machine.
 #[derive(Clone, Copy)]
-pub struct PlainStarted {
-    pub answer: u32,
-    pub plain: Plain,
+pub struct Ran<M> {
+    pub stop: Option<Stop>,
+    pub used: u64,
+    pub machine: M,
 }
 
-#[derive(Clone, Copy)]
-pub struct PlainRan {
-    pub answer: u32,
-    pub done: u64,
-    pub plain: Plain,
-}
-
-// Where whole instructions came to: the stop met or 0, and how many they were, in how many cycles.
+// Where whole instructions came to: the stop met, if one was, and how many they were, in how many cycles.
 #[derive(Clone, Copy)]
 pub struct Came {
-    pub stop: u32,
+    pub stop: Option<Stop>,
     pub flags: u32,
     pub a: u32,
     pub done: u64,
@@ -47,7 +44,7 @@ pub struct Came {
 }
 
 // What a refused start hands back.
-fn zeroed() -> Plain
+pub fn zeroed() -> Plain
     ensures { result ≡ zeroed }
 {
     Plain {
@@ -60,52 +57,42 @@ fn zeroed() -> Plain
 }
 
 impl Plain {
-    // Changes no memory; a refused start hands back a zeroed record.
-    pub fn start(registers: [u32; 15], flags: u32, entry: u32, memory: &[u8]) -> PlainStarted
-        ensures { result ≡ start registers flags entry memory.now }
+    // Changes no memory.
+    pub fn start(
+        registers: [u32; 15],
+        flags: u32,
+        entry: u32,
+        memory: &[u8],
+    ) -> Result<Plain, Refusal>
+        ensures { started_as zeroed result ≡ start registers flags entry memory.now }
     {
-        let answer = start_answer(memory.len(), entry, flags);
-        if answer != 0 {
-            let plain = zeroed();
-            return PlainStarted { answer, plain };
-        }
-        PlainStarted {
-            answer: 0,
-            plain: Plain {
-                registers,
-                a: entry,
-                flags,
-                stop: 0,
-                board: Board {
-                    size: memory.len() as u32,
-                },
+        start_answer(memory.len(), entry, flags)?;
+        Ok(Plain {
+            registers,
+            a: entry,
+            flags,
+            stop: 0,
+            board: Board {
+                size: memory.len() as u32,
             },
-        }
+        })
     }
 
     // Instructions until `count` are done or a stop is met. A refused call changes nothing.
-    pub fn run(self, memory: &mut [u8], count: u64) -> PlainRan
-        ensures { ran result.answer result.done (machine result.plain memory.new) ≡ run count (machine self memory.old) }
+    pub fn run(mut self, memory: &mut [u8], count: u64) -> Result<Ran<Plain>, Refusal>
+        ensures { ran_as (λ p. machine p memory.new) self result ≡ run count (machine self memory.old) }
     {
-        let refused = refusal(self, memory.len(), count);
-        if refused != 0 {
-            return PlainRan {
-                answer: refused,
-                done: 0,
-                plain: self,
-            };
+        refusal(self, memory.len(), count)?;
+        if let Ok(stop) = Stop::try_from(self.stop) {
+            return Ok(Ran {
+                stop: Some(stop),
+                used: 0,
+                machine: self,
+            });
         }
-        if self.stop != 0 {
-            return PlainRan {
-                answer: self.stop,
-                done: 0,
-                plain: self,
-            };
-        }
-        let mut registers = self.registers;
         let board = self.board;
         let came = wholes(
-            &mut registers,
+            &mut self.registers,
             memory,
             self.flags,
             self.a,
@@ -113,16 +100,15 @@ impl Plain {
             count,
             count * LONGEST,
         );
-        PlainRan {
-            answer: came.stop,
-            done: came.done,
-            plain: Plain {
-                registers,
+        Ok(Ran {
+            stop: came.stop,
+            used: came.done,
+            machine: Plain {
                 a: came.a,
                 flags: came.flags,
-                stop: came.stop,
-                board,
+                stop: number(came.stop),
+                ..self
             },
-        }
+        })
     }
 }

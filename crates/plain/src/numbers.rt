@@ -1,13 +1,12 @@
 // What a start or a run of the plain machine refuses; the core's start and run test the same.
 ghost use Rattle.std.specs.Prelude.{◌≡◌};
+ghost use Rattle.plain.specs.Refused.{refusal_number};
 ghost use Rattle.plain.specs.Numbers.{bad_length, bad_entry, bad_flags, start_answer, is_stop, is_counter, bad, bad_budget, refusal};
 
 use crate::Plain;
-use crate::refused::{
-    BUDGET_REFUSED, ENTRY_REFUSED, FLAGS_REFUSED, LENGTH_REFUSED, OTHER_MEMORY, RECORD_REFUSED,
-};
+use crate::refused::Refusal;
 use datapath::counter::COUNTERS;
-use stops::{FETCHED_WORD, NO_WORD};
+use stops::reason::Stop;
 
 // The smallest and the largest memory, in bytes.
 pub const LEAST_BYTES: usize = 16;
@@ -39,19 +38,19 @@ pub fn flags_are_bad(flags: u32) -> bool
 }
 
 // What a start answers: 1, 2, 4, or 0 where it is accepted.
-pub fn start_answer(length: usize, entry: u32, flags: u32) -> u32
-    ensures { result ≡ start_answer length entry flags }
+pub fn start_answer(length: usize, entry: u32, flags: u32) -> Result<(), Refusal>
+    ensures { refusal_number result ≡ start_answer length entry flags }
 {
     if length_is_bad(length) {
-        return LENGTH_REFUSED;
+        return Err(Refusal::Length);
     }
     if entry_is_bad(entry, length) {
-        return ENTRY_REFUSED;
+        return Err(Refusal::Entry);
     }
     if flags_are_bad(flags) {
-        FLAGS_REFUSED
+        Err(Refusal::Flags)
     } else {
-        0
+        Ok(())
     }
 }
 
@@ -59,7 +58,7 @@ pub fn start_answer(length: usize, entry: u32, flags: u32) -> u32
 pub fn is_stop(stop: u32) -> bool
     ensures { result ≡ is_stop stop }
 {
-    (stop == 0) | ((NO_WORD <= stop) & (stop <= FETCHED_WORD))
+    (stop == 0) | Stop::try_from(stop).is_ok()
 }
 
 // An address that a counter can hold.
@@ -87,18 +86,18 @@ fn is_bad(p: Plain) -> bool
 }
 
 // What a run refuses with: 12, 11, 3, or 0 where it is accepted.
-pub fn refusal(p: Plain, lent: usize, budget: u64) -> u32
-    ensures { result ≡ refusal p lent budget }
+pub fn refusal(p: Plain, lent: usize, budget: u64) -> Result<(), Refusal>
+    ensures { refusal_number result ≡ refusal p lent budget }
 {
     if lent != p.board.size as usize {
-        return OTHER_MEMORY;
+        return Err(Refusal::OtherMemory);
     }
     if is_bad(p) {
-        return RECORD_REFUSED;
+        return Err(Refusal::Record);
     }
     if budget_is_bad(budget) {
-        BUDGET_REFUSED
+        Err(Refusal::Budget)
     } else {
-        0
+        Ok(())
     }
 }

@@ -1,16 +1,24 @@
-// The numbers with which a start or a run is refused; the writer's is its own.
-pub const LENGTH_REFUSED: u32 = 1;
+// Why a start or a run is refused, by its number; the writer's is its own.
+ghost use Rattle.std.specs.Prelude.{◌≡◌};
+ghost use Rattle.plain.specs.Refused.{number_of};
 
-pub const ENTRY_REFUSED: u32 = 2;
+#[derive(Clone, Copy, PartialEq, Eq, Debug)]
+pub enum Refusal {
+    Length = 1,
+    Entry = 2,
+    Budget = 3,
+    Flags = 4,
+    Record = 11,
+    // Memory of another length is lent.
+    OtherMemory = 12,
+    // Of the core alone.
+    TooManyCycles = 13,
+}
 
-pub const BUDGET_REFUSED: u32 = 3;
+impl From<Refusal> for u32 {
+    ghost from_gives = { λ refusal n. n ≡ number_of refusal };
 
-pub const FLAGS_REFUSED: u32 = 4;
-
-pub const RECORD_REFUSED: u32 = 11;
-
-// Memory of another length is lent.
-pub const OTHER_MEMORY: u32 = 12;
-
-// Of the core alone.
-pub const TOO_MANY_CYCLES: u32 = 13;
+    fn from(refusal: Refusal) -> u32 {
+        refusal as u32
+    }
+}

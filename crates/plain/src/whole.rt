@@ -4,6 +4,7 @@ ghost use Rattle.plain.specs.Whole.{wholes, going, came_to};
 
 use crate::Came;
 use memory::Board;
+use registers::Context;
 use semantics::perform::perform_at;
 
 // The cycles of the longest instruction: a load of sixteen registers, the counter among them.
@@ -23,29 +24,44 @@ pub fn wholes(
 {
     let mut status = flags;
     let mut here = a;
-    let mut done: u64 = 0;
     let mut left = budget;
-    while (done < count) & (LONGEST <= left) {
-        let r = perform_at(registers, memory, status, here, board);
-        if r.stop != 0 {
+    for done in 0..count {
+        if left < LONGEST {
             return Came {
-                stop: r.stop,
-                flags: r.flags,
-                a: r.next,
+                stop: None,
+                flags: status,
+                a: here,
                 done,
                 used: budget - left,
             };
         }
-        status = r.flags;
-        here = r.next;
-        done += 1;
-        left -= r.cycles as u64;
+        let c = Context {
+            flags: status,
+            a: here,
+            board,
+        };
+        match perform_at(registers, memory, c) {
+            Ok(r) => {
+                status = r.flags;
+                here = r.next;
+                left -= r.cycles as u64;
+            }
+            Err(stop) => {
+                return Came {
+                    stop: Some(stop),
+                    flags: status,
+                    a: here,
+                    done,
+                    used: budget - left,
+                };
+            }
+        }
     }
     Came {
-        stop: 0,
+        stop: None,
         flags: status,
         a: here,
-        done,
+        done: count,
         used: budget - left,
     }
 }

@@ -1,5 +1,6 @@
 // What makes a record bad, and what a run refuses with.
 ghost use Rattle.std.specs.Prelude.{◌≡◌, not, ◌||◌, List, ℕ, ltb};
+ghost use Rattle.plain.specs.Refused.{refusal_number, at_once_number};
 ghost use Rattle.plain.specs.Numbers.{is_stop};
 ghost use Rattle.stops.specs.Stops.{due};
 ghost use Rattle.cycle.specs.Machine.{machine, most_cycles};
@@ -10,8 +11,9 @@ use bits::field;
 use condition::passes;
 use cycle::Control;
 use plain::numbers::{budget_is_bad, flags_are_bad, is_counter, is_stop, length_is_bad};
-use plain::refused::{BUDGET_REFUSED, OTHER_MEMORY, RECORD_REFUSED, TOO_MANY_CYCLES};
+use plain::refused::Refusal;
 use steps::Phase;
+use stops::reason::Stop;
 
 // A blank word has no step 2, nor has one that fails its condition.
 fn bad_step(k: u32, c: Control, registers: &[u32; 15]) -> bool
@@ -78,29 +80,34 @@ fn bad(registers: &[u32; 15], c: Control) -> bool
 }
 
 // What a run refuses with: 12, 11, 3, 13, or 0 where it is accepted.
-fn refusal(lent: usize, budget: u64, c: Control, registers: &[u32; 15]) -> u32
-    ensures { (mem : List ℕ) → result ≡ refusal lent budget (machine registers.now c mem) }
+fn refusal(lent: usize, budget: u64, c: Control, registers: &[u32; 15]) -> Result<(), Refusal>
+    ensures { (mem : List ℕ) → refusal_number result ≡ refusal lent budget (machine registers.now c mem) }
 {
     if lent != c.board.size as usize {
-        return OTHER_MEMORY;
+        return Err(Refusal::OtherMemory);
     }
     if bad(registers, c) {
-        return RECORD_REFUSED;
+        return Err(Refusal::Record);
     }
     if budget_is_bad(budget) {
-        return BUDGET_REFUSED;
+        return Err(Refusal::Budget);
     }
     if MOST_CYCLES < c.counts.cycles + budget {
-        TOO_MANY_CYCLES
+        Err(Refusal::TooManyCycles)
     } else {
-        0
+        Ok(())
     }
 }
 
-// The number with which a call ends before its first cycle, or 0: a refusal, else the stop held.
-pub fn at_once(lent: usize, budget: u64, c: Control, registers: &[u32; 15]) -> u32
-    ensures { (mem : List ℕ) → result ≡ at_once lent budget (machine registers.now c mem) }
+// What a call ends with before its first cycle: a refusal, else the stop held, if one is.
+pub fn at_once(
+    lent: usize,
+    budget: u64,
+    c: Control,
+    registers: &[u32; 15],
+) -> Result<Option<Stop>, Refusal>
+    ensures { (mem : List ℕ) → at_once_number result ≡ at_once lent budget (machine registers.now c mem) }
 {
-    let answer = refusal(lent, budget, c, registers);
-    if answer != 0 { answer } else { c.stop }
+    refusal(lent, budget, c, registers)?;
+    Ok(Stop::try_from(c.stop).ok())
 }

@@ -32,7 +32,7 @@ fn bad_processing(i: Processing, k: u32, c: Control, registers: &[u32; 15]) -> b
     ensures { (mem : List ℕ) → result ≡ bad_within (Instruction.Processing i) k (machine registers.now c mem) }
 {
     let steps = processing_steps(i);
-    (processing_rule(i, registers, c.flags, behind(c.pipe.pc, 12)) != 0) | !has_step(steps, k)
+    processing_rule(i, registers, c.flags, behind(c.pipe.pc, 12)).is_err() | !has_step(steps, k)
 }
 
 fn bad_single(i: Single, k: u32, c: Control) -> bool
@@ -40,7 +40,7 @@ fn bad_single(i: Single, k: u32, c: Control) -> bool
 {
     let board = c.board;
     let steps = single_steps(i);
-    (single_rule(i) != 0) | (!has_step(steps, k) | outside(c.latches.address, left(1, k), board))
+    single_rule(i).is_err() | (!has_step(steps, k) | outside(c.latches.address, left(1, k), board))
 }
 
 fn bad_block(i: Block, k: u32, c: Control) -> bool
@@ -49,7 +49,7 @@ fn bad_block(i: Block, k: u32, c: Control) -> bool
     let board = c.board;
     let steps = block_steps(i);
     let n = count(i.list);
-    (block_rule(i) != 0) | (!has_step(steps, k) | outside(c.latches.address, left(n, k), board))
+    block_rule(i).is_err() | (!has_step(steps, k) | outside(c.latches.address, left(n, k), board))
 }
 
 // The steps go by the value that Rs holds.
@@ -57,7 +57,7 @@ fn bad_multiply(i: Multiply, k: u32, c: Control, registers: &[u32; 15]) -> bool
     ensures { (mem : List ℕ) → result ≡ bad_within (Instruction.Multiply i) k (machine registers.now c mem) }
 {
     let steps = multiply_steps(i, registers);
-    (multiply_rule(i) != 0) | !has_step(steps, k)
+    multiply_rule(i).is_err() | !has_step(steps, k)
 }
 
 // A branch has no step 2, and an Other meets 22.

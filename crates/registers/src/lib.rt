@@ -4,12 +4,22 @@
 ghost use Rattle.std.specs.Prelude.{◌≡◌};
 ghost use Rattle.registers.specs.Registers.{register, put, out, arrives};
 
+// What an instruction finds besides the registers and the lent bytes: the flags, its own address, and the board.
+#[derive(Clone, Copy)]
+pub struct Context {
+    pub flags: u32,
+    pub a: u32,
+    pub board: Board,
+}
+
 // What an instruction leaves beside the registers. The counter goes to bits 25..2 of a stored word, or on where none is stored.
 #[derive(Clone, Copy)]
 pub struct Outcome {
     pub flags: u32,
     pub goes: Option<u32>,
 }
+
+use memory::Board;
 
 pub fn register(registers: &[u32; 15], n: u32, r15: u32) -> u32
     ensures { result ≡ register registers.now n r15 }

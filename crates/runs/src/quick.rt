@@ -15,21 +15,6 @@ use plain::numbers::MOST_BYTES;
 use plain::whole::{LONGEST, wholes};
 use steps::{Latches, Phase};
 
-fn same(x: Option<u32>, y: Option<u32>) -> bool
-    ensures { result ≡ same x y }
-{
-    match x {
-        Some(v) => match y {
-            Some(w) => v == w,
-            None => false,
-        },
-        None => match y {
-            Some(_) => false,
-            None => true,
-        },
-    }
-}
-
 // About to do step 1: no stop held, nothing latched, and the pipe holds what fetches would give now.
 fn stands(c: Control, memory: &[u8]) -> bool
     ensures { result ≡ stands c memory.now }
@@ -51,7 +36,7 @@ fn stands(c: Control, memory: &[u8]) -> bool
     let board = c.board;
     let word = fetch(memory, board, a);
     let ahead1 = fetch(memory, board, ahead(a, 4));
-    let filled = same(ix, word) & same(ir2, word) & same(ir1, ahead1);
+    let filled = (ix == word) & (ir2 == word) & (ir1 == ahead1);
     clear & sized & filled
 }
 

@@ -1,6 +1,7 @@
 pub mod Branch
 pub mod Effect
 pub mod Perform
+pub mod Told
 pub mod Duration
 pub mod Marked
 pub mod MarkedMultiply

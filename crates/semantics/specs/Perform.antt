@@ -7,20 +7,26 @@ use Rattle.memory.specs.Memory.{Memory}
 use Rattle.registers.specs.State.{State}
 use Rattle.stops.specs.Numbers.{no_word}
 use Rattle.stops.specs.Stops.{Due, no_word_there, skipped, executes, due, stop_of}
-use Rattle.semantics.specs.declared.Performed.{Performed}
 use Rattle.semantics.specs.Effect.{Effect, effect_of}
 use Rattle.semantics.specs.Duration.{own_steps, skipped_steps, refills, next_address, duration_of}
 
+-- what came of it beside registers and memory: the stop met, or 0; the flags; the address of the next instruction, after a stop its own; the cycles taken
+pub record Told : Type 0 where
+  pub stop : ℕ
+  pub flags : ℕ
+  pub next : ℕ
+  pub cycles : ℕ
+
 -- what came of it: registers and memory afterwards, and the rest
 pub record Result : Type 0 where
-  pub performed : Performed
+  pub performed : Told
   pub registers : List ℕ
   pub memory : Memory
 
-abbrev pub result_of : Performed → List ℕ → Memory → Result
+abbrev pub result_of : Told → List ℕ → Memory → Result
 result_of p g mem = record { performed = p; registers = g; memory = mem }
 
-abbrev pub performed : ℕ → ℕ → ℕ → ℕ → Performed
+abbrev pub performed : ℕ → ℕ → ℕ → ℕ → Told
 performed stop f next cycles = record { stop = stop; flags = f; next = next; cycles = cycles }
 
 -- an effect in its duration: own steps, plus 2 if the counter was stored
@@ -29,7 +35,7 @@ done s steps e =
     result_of (performed 0 e.out.flags (next_address s.a e.out.goes) (steps + refills e.out.goes)) e.out.registers e.memory
 
 -- a stop changes only the stop
-abbrev pub stopped_at : ℕ → ℕ → ℕ → Performed
+abbrev pub stopped_at : ℕ → ℕ → ℕ → Told
 stopped_at stop f a = performed stop f a 0
 
 abbrev pub stopped : ℕ → State → Result

@@ -6,10 +6,9 @@ pub mod duration;
 pub mod own_steps;
 pub mod perform;
 
-// What came of an instruction beside registers and memory: the stop met, or 0; the flags; the address of the next instruction, after a stop its own; the cycles taken.
+// What came of an instruction that is done, beside registers and memory: the flags; the address of the next instruction; the cycles taken.
 #[derive(Clone, Copy)]
 pub struct Performed {
-    pub stop: u32,
     pub flags: u32,
     pub next: u32,
     pub cycles: u32,

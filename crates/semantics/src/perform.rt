@@ -7,10 +7,11 @@ ghost use Rattle.transfer.specs.Block.{named, loads};
 ghost use Rattle.datapath.specs.Counter.{ahead};
 ghost use Rattle.memory.specs.Memory.{Memory, memory_of, word_at};
 ghost use Rattle.registers.specs.Registers.{arrives};
-ghost use Rattle.registers.specs.State.{state};
+ghost use Rattle.registers.specs.State.{state, state_in};
 ghost use Rattle.semantics.specs.Effect.{Left, base_then_register, base_then_registers, load_effect, store_effect, block_load_effect, block_store_effect};
 ghost use Rattle.semantics.specs.Duration.{single_steps, block_steps, refills, next_address};
-ghost use Rattle.semantics.specs.Perform.{result_of, performed, stopped_at, done, executed, performs};
+ghost use Rattle.semantics.specs.Perform.{result_of, performed, done, executed, performs};
+ghost use Rattle.semantics.specs.Told.{done_by, told};
 
 use crate::Performed;
 use crate::branch::branch;
@@ -24,18 +25,17 @@ use datapath::counter::{ahead, counter};
 use memory::{Board, fetch};
 use multiply::multiply;
 use processing::{operand_at, process_taken};
-use registers::{Outcome, arrive};
+use registers::{Context, Outcome, arrive};
+use stops::reason::Stop;
 use stops::stop::{block_stop, multiply_stop, processing_stop, single_stop_at};
-use stops::{NO_WORD, OTHER_WORD};
 use transfer::{Reach, block, single};
 use word::{Block, Branch, Instruction, Multiply, Processing, Single, reader};
 
 // Done in so many own steps, with the counter going on.
 fn went_on(a: u32, steps: u32, flags: u32) -> Performed
-    ensures { result ≡ performed 0 flags (ahead a 4) steps }
+    ensures { done_by result ≡ performed 0 flags (ahead a 4) steps }
 {
     Performed {
-        stop: 0,
         flags,
         next: ahead(a, 4),
         cycles: steps,
@@ -45,13 +45,12 @@ fn went_on(a: u32, steps: u32, flags: u32) -> Performed
 // Done in so many own steps, plus 2 if the counter was stored.
 fn done(a: u32, steps: u32, t: Outcome) -> Performed
     requires { steps ≤ 18 }
-    ensures { result ≡ performed 0 t.flags (next_address a t.goes) (steps + refills t.goes) }
+    ensures { done_by result ≡ performed 0 t.flags (next_address a t.goes) (steps + refills t.goes) }
 {
     let goes = t.goes;
     match goes {
         None => went_on(a, steps, t.flags),
         Some(word) => Performed {
-            stop: 0,
             flags: t.flags,
             next: counter(word),
             cycles: steps + REFILLS,
@@ -59,29 +58,18 @@ fn done(a: u32, steps: u32, t: Outcome) -> Performed
     }
 }
 
-// A stop changes only the stop.
-fn stopped(stop: u32, flags: u32, a: u32) -> Performed
-    ensures { result ≡ stopped_at stop flags a }
-{
-    Performed {
-        stop,
-        flags,
-        next: a,
-        cycles: 0,
-    }
-}
-
 // The operand is taken first, while the reader's choice of its kind is at hand; a stop has no use for it.
-fn perform_processing(i: Processing, registers: &mut [u32; 15], flags: u32, a: u32) -> Performed
-    ensures { (mem : Memory) → result_of result registers.new mem ≡ executed (Instruction.Processing i) (state registers.old flags a mem) }
+fn perform_processing(
+    i: Processing,
+    registers: &mut [u32; 15],
+    c: Context,
+) -> Result<Performed, Stop>
+    ensures { (mem : Memory) → result_of (told c.flags c.a result) registers.new mem ≡ executed (Instruction.Processing i) (state registers.old c.flags c.a mem) }
 {
-    let t = operand_at(i, registers, flags, a);
-    let stop = processing_stop(i, registers, flags, a);
-    if stop != 0 {
-        return stopped(stop, flags, a);
-    }
+    let t = operand_at(i, registers, c.flags, c.a);
+    processing_stop(i, registers, c)?;
     let steps = processing_steps(i);
-    done(a, steps, process_taken(i, t, registers, flags))
+    Ok(done(c.a, steps, process_taken(i, t, registers, c.flags)))
 }
 
 // `arrive`, with each part of what it leaves told by itself.
@@ -105,24 +93,16 @@ fn base_then_register(
     arrived(registers, flags, i.rd, value)
 }
 
-fn load(
-    i: Single,
-    at: Reach,
-    registers: &mut [u32; 15],
-    memory: &[u8],
-    flags: u32,
-    a: u32,
-    board: Board,
-) -> Performed
-    requires { (at.base ≡ changed_base i registers.old flags (ahead a 8)) × (at.address ≡ address_of i registers.old flags (ahead a 8)) }
-    ensures { result_of result registers.new (memory_of board memory.now) ≡ done (state registers.old flags a (memory_of board memory.now)) (single_steps i) (load_effect i (state registers.old flags a (memory_of board memory.now))) }
+fn load(i: Single, at: Reach, registers: &mut [u32; 15], memory: &[u8], c: Context) -> Performed
+    requires { (at.base ≡ changed_base i registers.old c.flags (ahead c.a 8)) × (at.address ≡ address_of i registers.old c.flags (ahead c.a 8)) }
+    ensures { result_of (done_by result) registers.new (memory_of c.board memory.now) ≡ done (state_in c registers.old memory.now) (single_steps i) (load_effect i (state_in c registers.old memory.now)) }
 {
-    let value = single::loaded_value(i, memory, board, at.address);
+    let value = single::loaded_value(i, memory, c.board, at.address);
     let steps = single_steps(i);
     done(
-        a,
+        c.a,
         steps,
-        base_then_register(i, registers, flags, at.base, value),
+        base_then_register(i, registers, c.flags, at.base, value),
     )
 }
 
@@ -131,39 +111,32 @@ fn store(
     at: Reach,
     registers: &mut [u32; 15],
     memory: &mut [u8],
-    flags: u32,
-    a: u32,
-    board: Board,
+    c: Context,
 ) -> Performed
-    requires { (at.base ≡ changed_base i registers.old flags (ahead a 8)) × (at.address ≡ address_of i registers.old flags (ahead a 8)) }
-    ensures { result_of result registers.new (memory_of board memory.new) ≡ done (state registers.old flags a (memory_of board memory.old)) (single_steps i) (store_effect i (state registers.old flags a (memory_of board memory.old))) }
+    requires { (at.base ≡ changed_base i registers.old c.flags (ahead c.a 8)) × (at.address ≡ address_of i registers.old c.flags (ahead c.a 8)) }
+    ensures { result_of (done_by result) registers.new (memory_of c.board memory.new) ≡ done (state_in c registers.old memory.old) (single_steps i) (store_effect i (state_in c registers.old memory.old)) }
 {
-    let value = single::stored_value(registers, i.rd, flags, ahead(a, 12));
-    single::store(i, memory, board, at.address, value);
+    let value = single::stored_value(registers, i.rd, c.flags, ahead(c.a, 12));
+    single::store(i, memory, c.board, at.address, value);
     single::write_base(i, registers, at.base);
-    went_on(a, single_steps(i), flags)
+    went_on(c.a, single_steps(i), c.flags)
 }
 
 fn perform_single(
     i: Single,
     registers: &mut [u32; 15],
     memory: &mut [u8],
-    flags: u32,
-    a: u32,
-    board: Board,
-) -> Performed
-    ensures { result_of result registers.new (memory_of board memory.new) ≡ executed (Instruction.Single i) (state registers.old flags a (memory_of board memory.old)) }
+    c: Context,
+) -> Result<Performed, Stop>
+    ensures { result_of (told c.flags c.a result) registers.new (memory_of c.board memory.new) ≡ executed (Instruction.Single i) (state_in c registers.old memory.old) }
 {
-    let at = single::reach(i, registers, flags, ahead(a, 8));
-    let stop = single_stop_at(i, at.address, a, board);
-    if stop != 0 {
-        return stopped(stop, flags, a);
-    }
-    if i.l {
-        load(i, at, registers, memory, flags, a, board)
+    let at = single::reach(i, registers, c.flags, ahead(c.a, 8));
+    single_stop_at(i, at.address, c.a, c.board)?;
+    Ok(if i.l {
+        load(i, at, registers, memory, c)
     } else {
-        store(i, at, registers, memory, flags, a, board)
-    }
+        store(i, at, registers, memory, c)
+    })
 }
 
 // `block::load`, with each part of what it leaves told by itself.
@@ -196,77 +169,55 @@ fn base_then_registers(
     loaded(i.list, registers, flags, lowest, memory, board)
 }
 
-fn load_block(
-    i: Block,
-    registers: &mut [u32; 15],
-    memory: &[u8],
-    flags: u32,
-    a: u32,
-    board: Board,
-) -> Performed
-    ensures { result_of result registers.new (memory_of board memory.now) ≡ done (state registers.old flags a (memory_of board memory.now)) (block_steps i) (block_load_effect i (state registers.old flags a (memory_of board memory.now))) }
+fn load_block(i: Block, registers: &mut [u32; 15], memory: &[u8], c: Context) -> Performed
+    ensures { result_of (done_by result) registers.new (memory_of c.board memory.now) ≡ done (state_in c registers.old memory.now) (block_steps i) (block_load_effect i (state_in c registers.old memory.now)) }
 {
     let lowest = block::lowest_address(i, registers);
     let base = block::changed_base(i, registers);
     let steps = block_steps(i);
     done(
-        a,
+        c.a,
         steps,
-        base_then_registers(i, registers, memory, flags, base, lowest, board),
+        base_then_registers(i, registers, memory, c.flags, base, lowest, c.board),
     )
 }
 
-fn store_block(
-    i: Block,
-    registers: &mut [u32; 15],
-    memory: &mut [u8],
-    flags: u32,
-    a: u32,
-    board: Board,
-) -> Performed
-    ensures { result_of result registers.new (memory_of board memory.new) ≡ done (state registers.old flags a (memory_of board memory.old)) (block_steps i) (block_store_effect i (state registers.old flags a (memory_of board memory.old))) }
+fn store_block(i: Block, registers: &mut [u32; 15], memory: &mut [u8], c: Context) -> Performed
+    ensures { result_of (done_by result) registers.new (memory_of c.board memory.new) ≡ done (state_in c registers.old memory.old) (block_steps i) (block_store_effect i (state_in c registers.old memory.old)) }
 {
-    block::store_all(i, registers, flags, ahead(a, 12), memory, board);
-    went_on(a, block_steps(i), flags)
+    block::store_all(i, registers, c.flags, ahead(c.a, 12), memory, c.board);
+    went_on(c.a, block_steps(i), c.flags)
 }
 
 fn perform_block(
     i: Block,
     registers: &mut [u32; 15],
     memory: &mut [u8],
-    flags: u32,
-    a: u32,
-    board: Board,
-) -> Performed
-    ensures { result_of result registers.new (memory_of board memory.new) ≡ executed (Instruction.Block i) (state registers.old flags a (memory_of board memory.old)) }
+    c: Context,
+) -> Result<Performed, Stop>
+    ensures { result_of (told c.flags c.a result) registers.new (memory_of c.board memory.new) ≡ executed (Instruction.Block i) (state_in c registers.old memory.old) }
 {
-    let stop = block_stop(i, registers, flags, a, board);
-    if stop != 0 {
-        return stopped(stop, flags, a);
-    }
-    if i.l {
-        load_block(i, registers, memory, flags, a, board)
+    block_stop(i, registers, c)?;
+    Ok(if i.l {
+        load_block(i, registers, memory, c)
     } else {
-        store_block(i, registers, memory, flags, a, board)
-    }
+        store_block(i, registers, memory, c)
+    })
 }
 
-fn perform_branch(i: Branch, registers: &mut [u32; 15], flags: u32, a: u32) -> Performed
-    ensures { (mem : Memory) → result_of result registers.new mem ≡ executed (Instruction.Branch i) (state registers.old flags a mem) }
+fn perform_branch(i: Branch, registers: &mut [u32; 15], c: Context) -> Result<Performed, Stop>
+    ensures { (mem : Memory) → result_of (told c.flags c.a result) registers.new mem ≡ executed (Instruction.Branch i) (state registers.old c.flags c.a mem) }
 {
-    done(a, BRANCH_STEPS, branch(i, registers, flags, a))
+    Ok(done(c.a, BRANCH_STEPS, branch(i, registers, c.flags, c.a)))
 }
 
 // The steps go by Rs before Rd is written, which may be the same.
-fn perform_multiply(i: Multiply, registers: &mut [u32; 15], flags: u32, a: u32) -> Performed
-    ensures { (mem : Memory) → result_of result registers.new mem ≡ executed (Instruction.Multiply i) (state registers.old flags a mem) }
+fn perform_multiply(i: Multiply, registers: &mut [u32; 15], c: Context) -> Result<Performed, Stop>
+    ensures { (mem : Memory) → result_of (told c.flags c.a result) registers.new mem ≡ executed (Instruction.Multiply i) (state registers.old c.flags c.a mem) }
 {
-    let stop = multiply_stop(i);
-    if stop != 0 {
-        return stopped(stop, flags, a);
-    }
+    multiply_stop(i)?;
     let steps = multiply_steps(i, registers);
-    went_on(a, steps, multiply(i, registers, flags))
+    Ok(went_on(c.a, steps, multiply(i, registers, c.flags)))
 }
 
 // By the kind of the word, each class in one place, so that its reader and its road dissolve here.
@@ -274,19 +225,17 @@ fn execute(
     word: u32,
     registers: &mut [u32; 15],
     memory: &mut [u8],
-    flags: u32,
-    a: u32,
-    board: Board,
-) -> Performed
-    ensures { result_of result registers.new (memory_of board memory.new) ≡ executed (read_of word) (state registers.old flags a (memory_of board memory.old)) }
+    c: Context,
+) -> Result<Performed, Stop>
+    ensures { result_of (told c.flags c.a result) registers.new (memory_of c.board memory.new) ≡ executed (read_of word) (state_in c registers.old memory.old) }
 {
     match reader::read(word) {
-        Instruction::Processing(i) => perform_processing(i, registers, flags, a),
-        Instruction::Single(i) => perform_single(i, registers, memory, flags, a, board),
-        Instruction::Block(i) => perform_block(i, registers, memory, flags, a, board),
-        Instruction::Branch(i) => perform_branch(i, registers, flags, a),
-        Instruction::Multiply(i) => perform_multiply(i, registers, flags, a),
-        Instruction::Other(_) => stopped(OTHER_WORD, flags, a),
+        Instruction::Processing(i) => perform_processing(i, registers, c),
+        Instruction::Single(i) => perform_single(i, registers, memory, c),
+        Instruction::Block(i) => perform_block(i, registers, memory, c),
+        Instruction::Branch(i) => perform_branch(i, registers, c),
+        Instruction::Multiply(i) => perform_multiply(i, registers, c),
+        Instruction::Other(_) => Err(Stop::OtherWord),
     }
 }
 
@@ -294,16 +243,14 @@ fn perform(
     word: u32,
     registers: &mut [u32; 15],
     memory: &mut [u8],
-    flags: u32,
-    a: u32,
-    board: Board,
-) -> Performed
-    ensures { result_of result registers.new (memory_of board memory.new) ≡ performs (Some word) (state registers.old flags a (memory_of board memory.old)) }
+    c: Context,
+) -> Result<Performed, Stop>
+    ensures { result_of (told c.flags c.a result) registers.new (memory_of c.board memory.new) ≡ performs (Some word) (state_in c registers.old memory.old) }
 {
-    if passes(field(word, 28, 4), flags) {
-        execute(word, registers, memory, flags, a, board)
+    if passes(field(word, 28, 4), c.flags) {
+        execute(word, registers, memory, c)
     } else {
-        went_on(a, SKIPPED_STEPS, flags)
+        Ok(went_on(c.a, SKIPPED_STEPS, c.flags))
     }
 }
 
@@ -311,14 +258,12 @@ fn perform(
 pub fn perform_at(
     registers: &mut [u32; 15],
     memory: &mut [u8],
-    flags: u32,
-    a: u32,
-    board: Board,
-) -> Performed
-    ensures { result_of result registers.new (memory_of board memory.new) ≡ performs (word_at (memory_of board memory.old) a) (state registers.old flags a (memory_of board memory.old)) }
+    c: Context,
+) -> Result<Performed, Stop>
+    ensures { result_of (told c.flags c.a result) registers.new (memory_of c.board memory.new) ≡ performs (word_at (memory_of c.board memory.old) c.a) (state_in c registers.old memory.old) }
 {
-    match fetch(memory, board, a) {
-        Some(word) => perform(word, registers, memory, flags, a, board),
-        None => stopped(NO_WORD, flags, a),
+    match fetch(memory, c.board, c.a) {
+        Some(word) => perform(word, registers, memory, c),
+        None => Err(Stop::NoWord),
     }
 }

@@ -3,12 +3,13 @@ ghost use Rattle.std.specs.Prelude.{◌≡◌};
 ghost use Rattle.slot.specs.Calls.{started, called, core_start, core_run};
 ghost use Rattle.slot.specs.Settle.{core_settle};
 
-use crate::refusal::{is_refusal, refusal_of};
+use crate::refusal::refusal_of;
 use core_arrays::CoreArray;
 use core_arrays::packing::pack;
 use core_arrays::unpacking::unpacked;
-use pipeline::Core;
+use pipeline::{Core, zeroed};
 use runs::left::cycles_left;
+use stops::reason::number;
 
 // A refused start leaves the zeroed core.
 #[unsafe(no_mangle)]
@@ -21,10 +22,16 @@ pub extern "C" fn slot_core_start(
 ) -> u32
     ensures { started result core.new ≡ core_start registers.now flags entry memory.now }
 {
-    let begun = Core::start(*registers, flags, entry, memory);
-    let fresh = begun.core;
-    pack(core, fresh);
-    begun.answer
+    match Core::start(*registers, flags, entry, memory) {
+        Ok(fresh) => {
+            pack(core, fresh);
+            0
+        }
+        Err(refusal) => {
+            pack(core, zeroed());
+            refusal.into()
+        }
+    }
 }
 
 // A refused run writes neither the array nor the memory.
@@ -38,18 +45,17 @@ pub extern "C" fn slot_core_run(
     ensures { called result used.new core.new memory.new ≡ core_run core.old memory.old budget }
 {
     *used = 0;
-    let refusal = refusal_of(core, memory.len());
-    if refusal != 0 {
-        return refusal;
+    if let Err(refusal) = refusal_of(core, memory.len()) {
+        return refusal.into();
     }
-    let ran = unpacked(core).run(memory, budget);
-    if is_refusal(ran.answer) {
-        return ran.answer;
+    match unpacked(core).run(memory, budget) {
+        Ok(ran) => {
+            pack(core, ran.machine);
+            *used = ran.used;
+            number(ran.stop)
+        }
+        Err(refusal) => refusal.into(),
     }
-    let next = ran.core;
-    pack(core, next);
-    *used = ran.used;
-    ran.answer
 }
 
 // The run whose budget is the cycles left, so that what a call of a few cycles goes through stands in one place.

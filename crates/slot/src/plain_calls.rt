@@ -2,9 +2,9 @@
 ghost use Rattle.std.specs.Prelude.{◌≡◌};
 ghost use Rattle.slot.specs.Calls.{started, called, plain_start, plain_run};
 
-use crate::refusal::is_refusal;
-use plain::Plain;
+use plain::{Plain, zeroed};
 use plain_arrays::{PlainArray, pack, unpacked};
+use stops::reason::number;
 
 #[unsafe(no_mangle)]
 pub extern "C" fn slot_plain_start(
@@ -16,10 +16,16 @@ pub extern "C" fn slot_plain_start(
 ) -> u32
     ensures { started result plain.new ≡ plain_start registers.now flags entry memory.now }
 {
-    let begun = Plain::start(*registers, flags, entry, memory);
-    let fresh = begun.plain;
-    pack(plain, fresh);
-    begun.answer
+    match Plain::start(*registers, flags, entry, memory) {
+        Ok(fresh) => {
+            pack(plain, fresh);
+            0
+        }
+        Err(refusal) => {
+            pack(plain, zeroed());
+            refusal.into()
+        }
+    }
 }
 
 #[unsafe(no_mangle)]
@@ -32,12 +38,12 @@ pub extern "C" fn slot_plain_run(
     ensures { called result used.new plain.new memory.new ≡ plain_run plain.old memory.old count }
 {
     *used = 0;
-    let ran = unpacked(plain).run(memory, count);
-    if is_refusal(ran.answer) {
-        return ran.answer;
+    match unpacked(plain).run(memory, count) {
+        Ok(ran) => {
+            pack(plain, ran.machine);
+            *used = ran.used;
+            number(ran.stop)
+        }
+        Err(refusal) => refusal.into(),
     }
-    let next = ran.plain;
-    pack(plain, next);
-    *used = ran.done;
-    ran.answer
 }

@@ -4,13 +4,7 @@ ghost use Rattle.slot.specs.Calls.{is_refusal, other_length, array_refusal, refu
 
 use core_arrays::CoreArray;
 use core_arrays::unpacking::{length_in, stands_for_core};
-use plain::refused::{OTHER_MEMORY, RECORD_REFUSED};
-
-pub fn is_refusal(answer: u32) -> bool
-    ensures { result ≡ is_refusal answer }
-{
-    (1 <= answer) & (answer <= 20)
-}
+use plain::refused::Refusal;
 
 fn other_length(lent: usize, length: u32) -> bool
     ensures { result ≡ other_length lent length }
@@ -18,20 +12,20 @@ fn other_length(lent: usize, length: u32) -> bool
     lent != length as usize
 }
 
-fn array_refusal(differs: bool, stands: bool) -> u32
+fn array_refusal(differs: bool, stands: bool) -> Result<(), Refusal>
     ensures { result ≡ array_refusal differs stands }
 {
     if differs {
-        return OTHER_MEMORY;
+        return Err(Refusal::OtherMemory);
     }
     if !stands {
-        return RECORD_REFUSED;
+        return Err(Refusal::Record);
     }
-    0
+    Ok(())
 }
 
 // What the array refuses with before its core is run, or 0.
-pub fn refusal_of(words: &CoreArray, lent: usize) -> u32
+pub fn refusal_of(words: &CoreArray, lent: usize) -> Result<(), Refusal>
     ensures { result ≡ refusal_of words.now lent }
 {
     array_refusal(other_length(lent, length_in(words)), stands_for_core(words))

@@ -7,7 +7,7 @@ ghost use Rattle.memory.specs.Memory.{memory_of, write_word};
 ghost use Rattle.steps.specs.Steps.{own, done, next_to_move, load_step, block_load_later, store_step, block_store_later, later_step};
 
 use crate::ending::{last, on, still};
-use crate::{After, Ended, Latches, Step};
+use crate::{After, Ended, Found, Latches, Step};
 use memory::{Board, read_word, write_word};
 use registers::{arrive, put};
 use transfer::block::next;
@@ -23,62 +23,43 @@ fn next_to_move(n: u32, address: u32) -> u32
 }
 
 // The first read of a block load, and the base.
-fn load_first(
-    i: Block,
-    registers: &mut [u32; 15],
-    memory: &[u8],
-    flags: u32,
-    l: Latches,
-    board: Board,
-) -> Step
+fn load_first(i: Block, registers: &mut [u32; 15], memory: &[u8], found: Found) -> Step
     ensures { own registers.new result (memory_of board memory.now) ≡ block_load_later i 0 registers.old flags l (memory_of board memory.now) }
 {
-    block::write_base(i, registers, l.base);
-    let address = next_to_move(count(rest(i.list)), l.address);
-    on(flags, address, read_word(memory, board, l.address), 0, 1)
+    block::write_base(i, registers, found.latches.base);
+    let address = next_to_move(count(rest(i.list)), found.latches.address);
+    let latches = Latches {
+        address,
+        datum: read_word(memory, found.board, found.latches.address),
+        base: 0,
+    };
+    on(found.flags, latches, 1)
 }
 
 // One of several registers left takes the data latch, and the next word is read.
-fn load_more(
-    k: u32,
-    left: u32,
-    registers: &mut [u32; 15],
-    memory: &[u8],
-    flags: u32,
-    l: Latches,
-    board: Board,
-) -> Step
+fn load_more(k: u32, left: u32, registers: &mut [u32; 15], memory: &[u8], found: Found) -> Step
     requires { (k < 16) × (1 < length (block.named left)) }
     ensures { own registers.new result (memory_of board memory.now) ≡ load_step k (block.named left) registers.old flags l (memory_of board memory.now) }
 {
-    put(registers, lowest(left), l.datum);
-    let address = next_to_move(count(rest(rest(left))), l.address);
-    on(
-        flags,
+    put(registers, lowest(left), found.latches.datum);
+    let address = next_to_move(count(rest(rest(left))), found.latches.address);
+    let latches = Latches {
         address,
-        read_word(memory, board, l.address),
-        0,
-        k + 2,
-    )
+        datum: read_word(memory, found.board, found.latches.address),
+        base: 0,
+    };
+    on(found.flags, latches, k + 2)
 }
 
 // Step k + 3 of a block load.
-fn load_step(
-    k: u32,
-    list: u32,
-    registers: &mut [u32; 15],
-    memory: &[u8],
-    flags: u32,
-    l: Latches,
-    board: Board,
-) -> Step
+fn load_step(k: u32, list: u32, registers: &mut [u32; 15], memory: &[u8], found: Found) -> Step
     ensures { own registers.new result (memory_of board memory.now) ≡ load_step k (drop k (block.named list)) registers.old flags l (memory_of board memory.now) }
 {
     let left = dropped(list, k);
     match count(left) {
-        0 => still(flags, After::Done(Ended::Executed)),
-        1 => last(arrive(registers, flags, lowest(left), l.datum)),
-        _ => load_more(k, left, registers, memory, flags, l, board),
+        0 => still(found.flags, After::Done(Ended::Executed)),
+        1 => last(arrive(registers, found.flags, lowest(left), found.latches.datum)),
+        _ => load_more(k, left, registers, memory, found),
     }
 }
 
@@ -92,49 +73,46 @@ fn store_base(i: Block, k: u32, registers: &mut [u32; 15], base: u32)
 }
 
 // The data latch is written, and what it takes next.
-fn store_more(
-    k: u32,
-    left: u32,
-    registers: &[u32; 15],
-    memory: &mut [u8],
-    flags: u32,
-    pc: u32,
-    l: Latches,
-    board: Board,
-) -> Step
+fn store_more(k: u32, left: u32, registers: &[u32; 15], memory: &mut [u8], found: Found) -> Step
     requires { (k < 16) × (1 < length (block.named left)) }
     ensures { own registers.now result (memory_of board memory.new) ≡ store_step k (block.named left) registers.now flags pc l (memory_of board memory.old) }
 {
-    write_word(memory, board, l.address, l.datum);
-    let datum = single::stored_value(registers, lowest(rest(left)), flags, pc);
-    on(flags, next(l.address), datum, 0, k + 1)
+    write_word(
+        memory,
+        found.board,
+        found.latches.address,
+        found.latches.datum,
+    );
+    let datum = single::stored_value(registers, lowest(rest(left)), found.flags, found.pc);
+    let latches = Latches {
+        address: next(found.latches.address),
+        datum,
+        base: 0,
+    };
+    on(found.flags, latches, k + 1)
 }
 
-fn store_last(memory: &mut [u8], flags: u32, l: Latches, board: Board) -> Step
-    ensures { (g : List ℕ) → own g result (memory_of board memory.new) ≡ done g flags (write_word (memory_of board memory.old) l.address l.datum) }
+fn store_last(memory: &mut [u8], found: Found) -> Step
+    ensures { (g : List ℕ) → own g result (memory_of board memory.new) ≡ done g flags (write_word (memory_of board memory.old) found.latches.address found.latches.datum) }
 {
-    write_word(memory, board, l.address, l.datum);
-    still(flags, After::Done(Ended::Executed))
+    write_word(
+        memory,
+        found.board,
+        found.latches.address,
+        found.latches.datum,
+    );
+    still(found.flags, After::Done(Ended::Executed))
 }
 
 // Step k + 2 of a block store, the base apart.
-fn store_step(
-    k: u32,
-    list: u32,
-    registers: &[u32; 15],
-    memory: &mut [u8],
-    flags: u32,
-    pc: u32,
-    l: Latches,
-    board: Board,
-) -> Step
+fn store_step(k: u32, list: u32, registers: &[u32; 15], memory: &mut [u8], found: Found) -> Step
     ensures { own registers.now result (memory_of board memory.new) ≡ store_step k (drop k (block.named list)) registers.now flags pc l (memory_of board memory.old) }
 {
     let left = dropped(list, k);
     match count(left) {
-        0 => still(flags, After::Done(Ended::Executed)),
-        1 => store_last(memory, flags, l, board),
-        _ => store_more(k, left, registers, memory, flags, pc, l, board),
+        0 => still(found.flags, After::Done(Ended::Executed)),
+        1 => store_last(memory, found),
+        _ => store_more(k, left, registers, memory, found),
     }
 }
 
@@ -143,16 +121,14 @@ fn block_load_later(
     k: u32,
     registers: &mut [u32; 15],
     memory: &[u8],
-    flags: u32,
-    l: Latches,
-    board: Board,
+    found: Found,
 ) -> Step
     ensures { own registers.new result (memory_of board memory.now) ≡ block_load_later i k registers.old flags l (memory_of board memory.now) }
 {
     if k == 0 {
-        load_first(i, registers, memory, flags, l, board)
+        load_first(i, registers, memory, found)
     } else {
-        load_step(k - 1, i.list, registers, memory, flags, l, board)
+        load_step(k - 1, i.list, registers, memory, found)
     }
 }
 
@@ -161,15 +137,12 @@ fn block_store_later(
     k: u32,
     registers: &mut [u32; 15],
     memory: &mut [u8],
-    flags: u32,
-    pc: u32,
-    l: Latches,
-    board: Board,
+    found: Found,
 ) -> Step
     ensures { own registers.new result (memory_of board memory.new) ≡ block_store_later i k registers.old flags pc l (memory_of board memory.old) }
 {
-    store_base(i, k, registers, l.base);
-    store_step(k, i.list, registers, memory, flags, pc, l, board)
+    store_base(i, k, registers, found.latches.base);
+    store_step(k, i.list, registers, memory, found)
 }
 
 pub fn later_block(
@@ -177,16 +150,13 @@ pub fn later_block(
     k: u32,
     registers: &mut [u32; 15],
     memory: &mut [u8],
-    flags: u32,
-    pc: u32,
-    l: Latches,
-    board: Board,
+    found: Found,
 ) -> Step
     ensures { own registers.new result (memory_of board memory.new) ≡ later_step (Instruction.Block i) k registers.old flags pc l (memory_of board memory.old) }
 {
     if i.l {
-        block_load_later(i, k, registers, memory, flags, l, board)
+        block_load_later(i, k, registers, memory, found)
     } else {
-        block_store_later(i, k, registers, memory, flags, pc, l, board)
+        block_store_later(i, k, registers, memory, found)
     }
 }

@@ -20,14 +20,9 @@ fn ends(goes: Option<u32>) -> After
 pub fn still(flags: u32, after: After) -> Step
     ensures { result ≡ still flags after }
 {
-    let latches = Latches {
-        address: 0,
-        datum: 0,
-        base: 0,
-    };
     Step {
         flags,
-        latches,
+        latches: Latches::default(),
         after,
     }
 }
@@ -41,14 +36,9 @@ pub fn last(t: Outcome) -> Step
 }
 
 // The instruction goes on with step k + 2.
-pub fn on(flags: u32, address: u32, datum: u32, base: u32, k: u32) -> Step
-    ensures { result ≡ step flags (latches address datum base) (More (Later k)) }
+pub fn on(flags: u32, latches: Latches, k: u32) -> Step
+    ensures { result ≡ step flags latches (More (Later k)) }
 {
-    let latches = Latches {
-        address,
-        datum,
-        base,
-    };
     Step {
         flags,
         latches,

@@ -10,7 +10,7 @@ ghost use Rattle.transfer.specs.Block as block;
 ghost use Rattle.steps.specs.Steps.{own, first_step};
 
 use crate::ending::{last, on, still};
-use crate::{After, Ended, Phase, Step};
+use crate::{After, Ended, Latches, Phase, Step};
 use datapath::counter::{ahead, behind};
 use processing::{process, shifts_by_register};
 use semantics::branch::branch;
@@ -56,13 +56,12 @@ fn first_single(i: Single, registers: &[u32; 15], flags: u32, pc: u32) -> Step
 {
     let address = single::address(i, registers, flags, pc);
     let datum = first_datum(i.l, registers, i.rd, flags, pc);
-    on(
-        flags,
+    let latches = Latches {
         address,
         datum,
-        single_base(i, registers, flags, pc),
-        0,
-    )
+        base: single_base(i, registers, flags, pc),
+    };
+    on(flags, latches, 0)
 }
 
 fn block_base(i: Block, registers: &[u32; 15]) -> u32
@@ -80,7 +79,12 @@ fn first_block(i: Block, registers: &[u32; 15], flags: u32, pc: u32) -> Step
 {
     let address = block::lowest_address(i, registers);
     let datum = first_datum(i.l, registers, lowest(i.list), flags, pc);
-    on(flags, address, datum, block_base(i, registers), 0)
+    let latches = Latches {
+        address,
+        datum,
+        base: block_base(i, registers),
+    };
+    on(flags, latches, 0)
 }
 
 fn first_branch(i: Branch, registers: &mut [u32; 15], flags: u32, pc: u32) -> Step

@@ -8,7 +8,7 @@ ghost use Rattle.steps.specs.Steps.{own, last, load_later, store_later, multiply
 
 use crate::blocks::later_block;
 use crate::ending::{last, on, still};
-use crate::{After, Ended, Latches, Phase, Step};
+use crate::{After, Ended, Found, Latches, Phase, Step};
 use memory::Board;
 use multiply::{m_of, multiply};
 use processing::process;
@@ -23,40 +23,35 @@ fn later_processing(i: Processing, registers: &mut [u32; 15], flags: u32, pc: u3
 }
 
 // A load: read and base; register.
-fn load_later(
-    i: Single,
-    k: u32,
-    registers: &mut [u32; 15],
-    memory: &[u8],
-    flags: u32,
-    l: Latches,
-    board: Board,
-) -> Step
+fn load_later(i: Single, k: u32, registers: &mut [u32; 15], memory: &[u8], found: Found) -> Step
     ensures { own registers.new result (memory_of board memory.now) ≡ load_later i k registers.old flags l (memory_of board memory.now) }
 {
     if k == 0 {
-        single::write_base(i, registers, l.base);
-        let value = single::loaded_value(i, memory, board, l.address);
-        on(flags, 0, value, 0, 1)
+        single::write_base(i, registers, found.latches.base);
+        let value = single::loaded_value(i, memory, found.board, found.latches.address);
+        let latches = Latches {
+            datum: value,
+            ..Latches::default()
+        };
+        on(found.flags, latches, 1)
     } else {
-        last(arrive(registers, flags, i.rd, l.datum))
+        last(arrive(registers, found.flags, i.rd, found.latches.datum))
     }
 }
 
 // A store: write and base.
-fn store_later(
-    i: Single,
-    registers: &mut [u32; 15],
-    memory: &mut [u8],
-    flags: u32,
-    l: Latches,
-    board: Board,
-) -> Step
+fn store_later(i: Single, registers: &mut [u32; 15], memory: &mut [u8], found: Found) -> Step
     ensures { own registers.new result (memory_of board memory.new) ≡ store_later i registers.old flags l (memory_of board memory.old) }
 {
-    single::write_base(i, registers, l.base);
-    single::store(i, memory, board, l.address, l.datum);
-    still(flags, After::Done(Ended::Executed))
+    single::write_base(i, registers, found.latches.base);
+    single::store(
+        i,
+        memory,
+        found.board,
+        found.latches.address,
+        found.latches.datum,
+    );
+    still(found.flags, After::Done(Ended::Executed))
 }
 
 fn later_single(
@@ -64,16 +59,14 @@ fn later_single(
     k: u32,
     registers: &mut [u32; 15],
     memory: &mut [u8],
-    flags: u32,
-    l: Latches,
-    board: Board,
+    found: Found,
 ) -> Step
     ensures { (pc : ℕ) → own registers.new result (memory_of board memory.new) ≡ later_step (Instruction.Single i) k registers.old flags pc l (memory_of board memory.old) }
 {
     if i.l {
-        load_later(i, k, registers, memory, flags, l, board)
+        load_later(i, k, registers, memory, found)
     } else {
-        store_later(i, registers, memory, flags, l, board)
+        store_later(i, registers, memory, found)
     }
 }
 
@@ -95,19 +88,16 @@ pub fn later_step(
     k: u32,
     registers: &mut [u32; 15],
     memory: &mut [u8],
-    flags: u32,
-    pc: u32,
-    l: Latches,
-    board: Board,
+    found: Found,
 ) -> Step
     ensures { own registers.new result (memory_of board memory.new) ≡ later_step (read_of word) k registers.old flags pc l (memory_of board memory.old) }
 {
     match reader::read(word) {
-        Instruction::Processing(i) => later_processing(i, registers, flags, pc),
-        Instruction::Single(i) => later_single(i, k, registers, memory, flags, l, board),
-        Instruction::Block(i) => later_block(i, k, registers, memory, flags, pc, l, board),
-        Instruction::Branch(_) => still(flags, After::Done(Ended::Executed)),
-        Instruction::Multiply(i) => later_multiply(i, k, registers, flags),
-        Instruction::Other(_) => still(flags, After::Done(Ended::Executed)),
+        Instruction::Processing(i) => later_processing(i, registers, found.flags, found.pc),
+        Instruction::Single(i) => later_single(i, k, registers, memory, found),
+        Instruction::Block(i) => later_block(i, k, registers, memory, found),
+        Instruction::Branch(_) => still(found.flags, After::Done(Ended::Executed)),
+        Instruction::Multiply(i) => later_multiply(i, k, registers, found.flags),
+        Instruction::Other(_) => still(found.flags, After::Done(Ended::Executed)),
     }
 }

@@ -6,6 +6,8 @@ pub mod ending;
 pub mod first;
 pub mod later;
 
+use memory::Board;
+
 // What the next cycle does. Steps 2 and later are counted from 0.
 #[derive(Clone, Copy)]
 pub enum Phase {
@@ -32,11 +34,20 @@ pub enum After {
 }
 
 // The next address to be moved, the data latch, and the written-back base; one that no step left needs is 0.
-#[derive(Clone, Copy)]
+#[derive(Clone, Copy, Default)]
 pub struct Latches {
     pub address: u32,
     pub datum: u32,
     pub base: u32,
+}
+
+// What a step from 2 on finds besides the registers and the lent bytes. PC is A+12.
+#[derive(Clone, Copy)]
+pub struct Found {
+    pub flags: u32,
+    pub pc: u32,
+    pub latches: Latches,
+    pub board: Board,
 }
 
 // What a step leaves beside the registers and the memory, which are lent.

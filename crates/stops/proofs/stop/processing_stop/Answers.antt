@@ -1,14 +1,14 @@
-use Rattle.bits.proofs.Tests.{zero-by, nonzero-by}
-use mathlib.Core.Path.{sym, ◌∙◌}
+use Rattle.std.proofs.Common.{arith, sym}
+use Rattle.std.proofs.lemmas.Grind.{common_steps}
 use Rattle.stops.specs.Rules.{rule_broken}
 use Rattle.stops.specs.Moves.{moves_of}
 use Rattle.stops.specs.Stops.{moved_stop, stop_of}
 use Rattle.stops.proofs.stop.processing_stop.Goals as goal
 
-pub returns-then-processing_rule-eq0 : goal.returns-then-processing_rule-eq0
+pub returns-in_err-processing_rule : goal.returns-in_err-processing_rule
 unfolding rule_broken moves_of stop_of moved_stop
-returns-then-processing_rule-eq0 c mem = simp (zero-by (c.processing_rule.ensures mem) c.if-processing_rule-eq0.true, sym (c.processing_rule.ensures mem) ∙ c.if-processing_rule-eq0.true, c.processing_rule.ensures mem)
+returns-in_err-processing_rule c mem = let h = c.in_err-processing_rule.ensures mem in grind (arith, common_steps, h)
 
-pub returns-else-processing_rule-eq0 : goal.returns-else-processing_rule-eq0
+pub returns : goal.returns
 unfolding rule_broken moves_of stop_of moved_stop
-returns-else-processing_rule-eq0 c mem = simp (nonzero-by (c.processing_rule.ensures mem) c.if-processing_rule-eq0.false, c.processing_rule.ensures mem)
+returns c mem = simp (sym (c.in_ok-processing_rule.ensures mem))

@@ -1,6 +1,6 @@
 use Rattle.std.proofs.Common.{sym, ◌∙◌}
 use Rattle.memory.specs.Memory.{memory_of}
-use Rattle.stops.proofs.Joins.{read-stop, branch-stop, other-stop}
+use Rattle.stops.proofs.Joins.{read-stop}
 use Rattle.stops.proofs.stop.word_stop.Goals as goal
 
 pub returns-in-Processing : goal.returns-in-Processing
@@ -12,11 +12,5 @@ returns-in-Single c bytes = read-stop _ (sym c.in-Single.is ∙ c.read.ensures) 
 pub returns-in-Block : goal.returns-in-Block
 returns-in-Block c bytes = read-stop _ (sym c.in-Block.is ∙ c.read.ensures) (c.block_stop.ensures bytes)
 
-pub returns-in-Branch : goal.returns-in-Branch
-returns-in-Branch c bytes = read-stop _ (sym c.in-Branch.is ∙ c.read.ensures) (branch-stop _ _)
-
 pub returns-in-Multiply : goal.returns-in-Multiply
 returns-in-Multiply c bytes = read-stop _ (sym c.in-Multiply.is ∙ c.read.ensures) (c.multiply_stop.ensures _)
-
-pub returns-in-Other : goal.returns-in-Other
-returns-in-Other c bytes = read-stop _ (sym c.in-Other.is ∙ c.read.ensures) (other-stop _ _)
