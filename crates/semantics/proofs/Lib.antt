@@ -7,3 +7,4 @@ pub mod OwnBase
 pub mod Stopped
 pub mod StoredCounters
 pub mod WordDurations
+pub mod Stops

@@ -25,7 +25,7 @@ use Rattle.stops.specs.Numbers.{no_word, other_word}
 use Rattle.stops.specs.Rules.{rule_broken}
 use Rattle.stops.specs.Moves.{moves_of}
 use Rattle.stops.specs.Stops.{due, moved_stop, stop_of}
-use Rattle.semantics.specs.declared.Performed.{Performed}
+use Rattle.semantics.specs.Perform.{Told}
 use Rattle.semantics.specs.Branch.{branched}
 use Rattle.semantics.specs.Effect.{Effect, effect, Left, base_then_register, base_then_registers, load_effect, store_effect, block_load_effect, block_store_effect, effect_of}
 use Rattle.semantics.specs.Duration.{processing_steps, single_steps, block_steps, multiply_steps, own_steps, skipped_steps, refills, next_address}
@@ -35,7 +35,7 @@ and_none : (s : ℕ) → s ≡ s + 0
 and_none s = omega arith
 
 -- the counter went on, or was stored
-pub went_on : {p : Performed} {t : Option ℕ} {f : ℕ} (a steps : ℕ) → t ≡ None → p ≡ performed 0 f (ahead a 4) steps
+pub went_on : {p : Told} {t : Option ℕ} {f : ℕ} (a steps : ℕ) → t ≡ None → p ≡ performed 0 f (ahead a 4) steps
     → p ≡ performed 0 f (next_address a t) (steps + refills t)
 went_on {f = f} a steps e q =
     q ∙ ap (performed 0 f (ahead a 4)) (and_none steps) ∙ ap (λ (x : Option ℕ). performed 0 f (next_address a x) (steps + refills x)) (sym e)
@@ -50,13 +50,13 @@ pub whole : {o : Out} {h : List ℕ} {t : Outcome} → Left o h t → out h t.fl
 whole {o} l = rw (l.registers, l.flags, l.goes)
 
 -- an instruction done, from what it left
-pub finished : (s : State) (steps : ℕ) {p : Performed} {h : List ℕ} {f : ℕ} {t : Option ℕ} {o : Out} {mem : Memory}
+pub finished : (s : State) (steps : ℕ) {p : Told} {h : List ℕ} {f : ℕ} {t : Option ℕ} {o : Out} {mem : Memory}
     → p ≡ performed 0 f (next_address s.a t) (steps + refills t) → out h f t ≡ o → result_of p h mem ≡ done s steps (effect o mem)
 finished s steps {p} {h} {f} {t} {mem = mem} q e =
-    ap (λ (x : Performed). result_of x h mem) q ∙ ap (λ (x : Out). done s steps (effect x mem)) e
+    ap (λ (x : Told). result_of x h mem) q ∙ ap (λ (x : Out). done s steps (effect x mem)) e
 
 -- in so many own steps
-module _ (s : State) (steps : ℕ) {p : Performed} {h : List ℕ} where
+module _ (s : State) (steps : ℕ) {p : Told} {h : List ℕ} where
   pub load_done : (i : Single) {base address value : ℕ} {f₂ : ℕ} {t : Option ℕ}
       → base ≡ single.changed_base i s.registers s.status (ahead s.a 8) → address ≡ single.address_of i s.registers s.status (ahead s.a 8) → value ≡ single.loaded_value i s.memory address
       → p ≡ performed 0 f₂ (next_address s.a t) (steps + refills t) → out h f₂ t ≡ base_then_register i s.registers s.status base value
@@ -83,7 +83,7 @@ module _ (s : State) (steps : ℕ) {p : Performed} {h : List ℕ} where
 -- ---- a passing condition: stopped, or done
 
 module _ (i : Instruction) (s : State) {q : ℕ} (e : q ≡ stop_of i s) where
-  pub executed-stop : {p : Performed} → (q ≡ 0 → ⊥) → p ≡ stopped_at q s.status s.a → result_of p s.registers s.memory ≡ executed i s
+  pub executed-stop : {p : Told} → (q ≡ 0 → ⊥) → p ≡ stopped_at q s.status s.a → result_of p s.registers s.memory ≡ executed i s
   unfolding executed
   executed-stop n d = rw (nonzero-by e n, d, e)
 
@@ -115,28 +115,28 @@ module _ (i : Block) (s : State) where
   unfolding own_steps effect_of
   block-store e = rw e
 
-pub processing-done : (i : Processing) (s : State) {steps pc : ℕ} {p : Performed} {h : List ℕ} {f₂ : ℕ} {t : Option ℕ}
+pub processing-done : (i : Processing) (s : State) {steps pc : ℕ} {p : Told} {h : List ℕ} {f₂ : ℕ} {t : Option ℕ}
     → steps ≡ processing_steps i → pc ≡ reads_at i s.a → p ≡ performed 0 f₂ (next_address s.a t) (steps + refills t) → out h f₂ t ≡ processed i s.registers s.status pc
     → result_of p h s.memory ≡ done s (own_steps (Instruction.Processing i) s.registers) (effect_of (Instruction.Processing i) s)
 unfolding own_steps effect_of
 processing-done i s {steps} n c q o = rw (← n) (finished s steps {o = (effect_of (Instruction.Processing i) s).out} q (o ∙ rw c))
 
-pub branch-done : (i : Branch) (s : State) {p : Performed} {h : List ℕ} {f₂ : ℕ} {t : Option ℕ}
+pub branch-done : (i : Branch) (s : State) {p : Told} {h : List ℕ} {f₂ : ℕ} {t : Option ℕ}
     → p ≡ performed 0 f₂ (next_address s.a t) (1 + refills t) → out h f₂ t ≡ branched i s.registers s.status s.a
     → result_of p h s.memory ≡ executed (Instruction.Branch i) s
 unfolding executed stop_of rule_broken moved_stop moves_of own_steps effect_of
 branch-done i s q o = finished s 1 q o
 
-pub multiply-done : (i : Multiply) (s : State) {steps : ℕ} {p : Performed} {h : List ℕ} {f₂ : ℕ}
+pub multiply-done : (i : Multiply) (s : State) {steps : ℕ} {p : Told} {h : List ℕ} {f₂ : ℕ}
     → steps ≡ multiply_steps i s.registers → p ≡ performed 0 f₂ (ahead s.a 4) steps → out h f₂ None ≡ multiplied i s.registers s.status
     → result_of p h s.memory ≡ done s (own_steps (Instruction.Multiply i) s.registers) (effect_of (Instruction.Multiply i) s)
 unfolding own_steps effect_of
 multiply-done i s {steps} n q o =
     rw (← n) (finished s steps {o = (effect_of (Instruction.Multiply i) s).out} (went_on {t = None} s.a steps refl q) o)
 
-pub other-stop : (w : ℕ) (s : State) {p : Performed} → p ≡ stopped_at other_word s.status s.a → result_of p s.registers s.memory ≡ executed (Instruction.Other w) s
+pub other-stop : (w : ℕ) (s : State) {p : Told} → p ≡ stopped_at other_word s.status s.a → result_of p s.registers s.memory ≡ executed (Instruction.Other w) s
 unfolding executed stop_of
-other-stop w s q = ap (λ (x : Performed). result_of x s.registers s.memory) q
+other-stop w s q = ap (λ (x : Told). result_of x s.registers s.memory) q
 
 -- an instruction that is read from a word
 pub read_as : {i j : Instruction} (s : State) {r : Result} → i ≡ j → r ≡ executed i s → r ≡ executed j s
@@ -149,7 +149,7 @@ module _ (w : ℕ) (s : State) where
   unfolding performs due
   passing p e = e ∙ rw p
 
-  pub failing : {p : Performed} → passes (field w 28 4) s.status ≡ false → p ≡ performed 0 s.status (ahead s.a 4) skipped_steps
+  pub failing : {p : Told} → passes (field w 28 4) s.status ≡ false → p ≡ performed 0 s.status (ahead s.a 4) skipped_steps
       → result_of p s.registers s.memory ≡ performs (Some w) s
   unfolding performs due
   failing e q = rw (q, e)
@@ -159,6 +159,6 @@ module _ (w : ℕ) (s : State) where
 pub fetched-as : {x y : Option ℕ} (s : State) {r : Result} → x ≡ y → r ≡ performs y s → r ≡ performs x s
 fetched-as s e q = q ∙ ap (λ x. performs x s) (sym e)
 
-pub blank-stop : (s : State) {p : Performed} → p ≡ stopped_at no_word s.status s.a → result_of p s.registers s.memory ≡ performs None s
+pub blank-stop : (s : State) {p : Told} → p ≡ stopped_at no_word s.status s.a → result_of p s.registers s.memory ≡ performs None s
 unfolding performs due
-blank-stop s q = ap (λ (x : Performed). result_of x s.registers s.memory) q
+blank-stop s q = ap (λ (x : Told). result_of x s.registers s.memory) q

@@ -1,3 +1,4 @@
+use Rattle.std.proofs.Common.{refl}
 use Rattle.std.proofs.Common.{sym, ◌∙◌}
 use Rattle.semantics.proofs.Results.{other-stop, read_as}
 use Rattle.semantics.proofs.perform.execute.Goals as goal
@@ -23,4 +24,4 @@ returns-in-Multiply c = read_as _ (sym c.in-Multiply.is ∙ c.read.ensures) (c.p
 
 pub returns-in-Other : goal.returns-in-Other
 returns-in-Other c =
-    read_as _ (sym c.in-Other.is ∙ c.read.ensures) (other-stop _ _ c.stopped.ensures)
+    read_as _ (sym c.in-Other.is ∙ c.read.ensures) (other-stop _ _ refl)

@@ -9,5 +9,5 @@ returns-then-passes c = passing _ _ (rw c.field.ensures at (sym c.passes.ensures
 
 pub returns-else-passes : goal.returns-else-passes
 returns-else-passes c =
-    let e : passes (field c.args.word 28 4) c.args.flags ≡ false = rw c.field.ensures at (sym c.passes.ensures ∙ c.if-passes.false) in
+    let e : passes (field c.args.word 28 4) c.args.c.flags ≡ false = rw c.field.ensures at (sym c.passes.ensures ∙ c.if-passes.false) in
     failing _ _ e c.went_on.ensures
