@@ -2,13 +2,14 @@
 -- Assumes nothing.
 use Prim.Native.Nat.{ℕ, ◌%◌, ◌≤◌}
 use mathlib.Core.Path.{◌≡◌, refl, sym, ◌∙◌}
-use mathlib.Core.Bool.{Bool, true, false, not, ◌||◌, false≢true}
+use mathlib.Core.Bool.{Bool, true, false, not, ◌&&◌, ◌||◌, false≢true}
 use native.Mathlib.Omega.{arith}
 use borrow.Author.Tests.{ltb-true, ltb-false, lt-ltb, le-ltb, eqb-true, eq-eqb, not-false}
-use lib.Dec.{eqb, ltb}
+use lib.Dec.{eqb, ltb, leb}
+use Rattle.stops.specs.Numbers.{no_word, fetched_word}
 use Rattle.bits.specs.Choice.{pick}
 use Rattle.plain.specs.declared.Plain.{Plain}
-use Rattle.plain.specs.Numbers.{most_budget, bad_length, bad_entry, bad_flags, bad_budget, start_answer, bad, refusal}
+use Rattle.plain.specs.Numbers.{most_budget, bad_length, bad_entry, bad_flags, bad_budget, start_answer, is_stop, is_counter, bad, refusal}
 use Rattle.plain.specs.Refused.{budget_refused, record_refused, other_memory}
 use Rattle.plain.specs.Starts.{GoodLength, GoodEntry, Answered, length_bad, entry_bad, flags_bad, accepted, Starts}
 
@@ -89,3 +90,24 @@ budgeted p lent n e z = by_length (not (eqb lent p.board.size)) (sym e ∙ z)
     by_length : (a : Bool) → pick a other_memory (pick (bad p) record_refused (pick (bad_budget n) budget_refused 0)) ≡ 0 → n ≤ most_budget
     by_length true f = absurd (omega arith)
     by_length false f = by-record (bad p) f
+
+-- what a run that is not refused finds held: a stop, or none
+pub standing : (p : Plain) (lent n : ℕ) → 0 ≡ refusal p lent n → is_stop p.stop ≡ true
+unfolding refusal bad
+standing p lent n e = by_length (not (eqb lent p.board.size)) (sym e)
+  where
+    by-record : (a : Bool) → bad p ≡ a → pick a record_refused (pick (bad_budget n) budget_refused 0) ≡ 0 → is_stop p.stop ≡ true
+    by-record true t f = absurd (omega (arith, f))
+    by-record false t f = not-false _ (neither (bad_length p.board.size || not (is_counter p.a) || bad_flags p.flags) (not (is_stop p.stop)) t).1
+
+    by_length : (a : Bool) → pick a other_memory (pick (bad p) record_refused (pick (bad_budget n) budget_refused 0)) ≡ 0 → is_stop p.stop ≡ true
+    by_length true f = absurd (omega (arith, f))
+    by_length false f = by-record (bad p) refl f
+
+-- a number that a record can hold and that no stop has is 0
+pub none-held : (q : ℕ) → is_stop q ≡ true → false ≡ (leb no_word q && leb q fetched_word) → q ≡ 0
+none-held q h e = go (eqb q 0) refl h
+  where
+    go : (b : Bool) → eqb q 0 ≡ b → (b || (leb no_word q && leb q fetched_word)) ≡ true → q ≡ 0
+    go true t f = eqb-true q 0 t
+    go false t f = absurd (false≢true (e ∙ f))

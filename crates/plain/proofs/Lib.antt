@@ -3,3 +3,4 @@ pub mod Running
 pub mod Traces
 pub mod WholeSteps
 pub mod Refusals
+pub mod Told

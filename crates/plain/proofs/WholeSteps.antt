@@ -11,8 +11,7 @@ use borrow.Author.Tests.{le-leb, lt-leb, ltb-true, ltb-false, leb-true, leb-fals
 use Rattle.bits.specs.Choice.{pick}
 use Rattle.memory.specs.declared.Board.{Board}
 use Rattle.memory.specs.Memory.{memory_of, word_at}
-use Rattle.semantics.specs.declared.Performed.{Performed}
-use Rattle.semantics.specs.Perform.{Result, result_of, performs}
+use Rattle.semantics.specs.Perform.{Result, result_of, performs, Told}
 use Rattle.semantics.proofs.Durations.{performed-short}
 use Rattle.plain.specs.Machine.{Machine, machine, plain, state_of, after, performed_at, step}
 use Rattle.plain.specs.Trace.{stop_met, duration}
@@ -70,7 +69,7 @@ within-budgets (suc n) b m = by-room (leb longest b) refl (within-budgets n (b -
     by-room false e i = (omega arith, omega arith)
 
 -- ---- what performing the word there tells
-module _ (m : Machine) {r : Performed} {h : List ℕ} {board : Board} {new : List ℕ}
+module _ (m : Machine) {r : Told} {h : List ℕ} {board : Board} {new : List ℕ}
     (e : result_of r h (memory_of board new) ≡ performs (word_at (state_of m).memory m.plain.a) (state_of m)) where
   told : result_of r h (memory_of board new) ≡ performed_at m
   unfolding performed_at
@@ -158,7 +157,7 @@ module _ {count budget : ℕ} {w : Wholes} {done left : ℕ} {m : Machine} (l : 
                 ∙ ap (λ (y : ℕ). wholes_of (done + 1 + x.done) y x.stop x.machine) sums;
           }
 
-  pub left-cycles : {r : Performed} {h : List ℕ} {board : Board} {new : List ℕ}
+  pub left-cycles : {r : Told} {h : List ℕ} {board : Board} {new : List ℕ}
       → result_of r h (memory_of board new) ≡ performs (word_at (state_of m).memory m.plain.a) (state_of m) → r.cycles ≤ longest
   left-cycles e = short-told m e
 

@@ -10,14 +10,6 @@ use Rattle.semantics.specs.declared.Performed.{Performed}
 use Rattle.semantics.specs.Perform.{stopped_at}
 use Rattle.semantics.specs.Told.{told}
 
--- no stop has the number 0
-pub some_number : (stop : Stop) → number_of stop ≡ 0 → ⊥
-some_number NoWord e = omega (arith, e)
-some_number OtherWord e = omega (arith, e)
-some_number BrokenRule e = omega (arith, e)
-some_number OutsideMemory e = omega (arith, e)
-some_number FetchedWord e = omega (arith, e)
-
 pub handed_on : (f a : ℕ) (stop : Stop) (r : Result Performed Stop) → IsErrAnd r (λ e. e ≡ stop) → told f a r ≡ stopped_at (number_of stop) f a
 handed_on f a stop (Ok p) h = absurd h
 handed_on f a stop (Err e) h = ap (λ (x : Stop). stopped_at (number_of x) f a) h

@@ -4,3 +4,4 @@ pub mod BrokenRules
 pub mod StopOrder
 pub mod HiddenStops
 pub mod Joins
+pub mod Numbers

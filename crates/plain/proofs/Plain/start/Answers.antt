@@ -1,17 +1,19 @@
-use native.Mathlib.Omega.{arith}
-use Rattle.plain.proofs.Accepted.{given}
+use Rattle.std.proofs.Common.{sym, ◌∙◌, arith}
 use Rattle.bits.proofs.Tests.{nonzero-by}
-use mathlib.Core.Path.{sym, ◌∙◌}
 use Rattle.plain.specs.Run.{start}
+use Rattle.plain.proofs.Accepted.{given}
+use Rattle.plain.proofs.Told.{some_number, refused_start}
 use Rattle.plain.proofs.Plain.start.Goals as goal
 
-pub returns-then-answer-ne0 : goal.returns-then-answer-ne0
+pub returns-in_err-start_answer : goal.returns-in_err-start_answer
 unfolding start
-returns-then-answer-ne0 c = simp (c.zeroed-plain.ensures, nonzero-by c.start_answer-answer.ensures c.if-answer-ne0.true, c.start_answer-answer.ensures)
+returns-in_err-start_answer c =
+    refused_start _ _ _ c.from_residual.ensures.1
+    ∙ simp (nonzero-by c.in_err-start_answer.ensures (some_number _), c.in_err-start_answer.ensures)
 
 pub overflow_cast-result : goal.overflow_cast-result
-overflow_cast-result c = omega (arith, (given _ _ _ (sym c.start_answer-answer.ensures ∙ c.if-answer-ne0.false)).sized.most)
+overflow_cast-result c = record { fits = omega (arith, (given _ _ _ (sym c.in_ok-start_answer.ensures)).sized.most) }
 
 pub returns : goal.returns
 unfolding start
-returns c = simp (sym c.start_answer-answer.ensures ∙ c.if-answer-ne0.false)
+returns c = simp (sym c.in_ok-start_answer.ensures)

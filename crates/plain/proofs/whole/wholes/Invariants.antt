@@ -1,5 +1,4 @@
 -- The loop's invariant: what is left of both budgets, from here, comes to the whole. Assumes nothing.
-use Prim.Native.Nat.{◌-◌}
 use mathlib.Core.Path.{◌≡◌}
 use lib.ListN.{length}
 use Rattle.plain.specs.Whole.{wholes, going}
@@ -10,6 +9,3 @@ abbrev pub invariant-loop-done : goal.invariant-loop-done
 invariant-loop-done l =
     Left l.count l.budget (wholes l.count l.budget (going l.initial.registers l.flags l.a l.board l.initial.memory)) l.done l.left (going l.registers l.status l.here l.board l.memory)
     × (length l.memory ≡ length l.initial.memory)
-
-abbrev pub decreases-loop-done : goal.decreases-loop-done
-decreases-loop-done l = l.count - l.done

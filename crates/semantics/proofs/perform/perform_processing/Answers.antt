@@ -1,5 +1,6 @@
 use Rattle.std.proofs.Common.{refl}
-use Rattle.semantics.proofs.Stops.{some_number, handed_on}
+use Rattle.stops.proofs.Numbers.{some_number}
+use Rattle.semantics.proofs.Stops.{handed_on}
 use Rattle.semantics.proofs.Durations.{processing-short}
 use Rattle.semantics.proofs.Results.{executed-stop, executed-done, processing-done}
 use Rattle.semantics.proofs.perform.perform_processing.Goals as goal

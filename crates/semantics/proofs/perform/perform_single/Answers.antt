@@ -1,5 +1,6 @@
 use Rattle.std.proofs.Common.{refl}
-use Rattle.semantics.proofs.Stops.{some_number, handed_on}
+use Rattle.stops.proofs.Numbers.{some_number}
+use Rattle.semantics.proofs.Stops.{handed_on}
 use Rattle.std.proofs.Common.{◌∙◌}
 use Rattle.stops.proofs.Joins.{single-stop}
 use Rattle.semantics.proofs.Results.{executed-stop, executed-done, single-load, single-store}
