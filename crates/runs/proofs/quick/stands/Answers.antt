@@ -11,9 +11,9 @@ unfolding stands
 returns c =
     simp (
       sym c.is_step1.ensures ∙ c.if-not-is_step1.false,
-      c.same.ensures,
-      c.same-2.ensures,
-      c.same-3.ensures,
+      c.eq.ensures,
+      c.eq-2.ensures,
+      c.eq-3.ensures,
       c.fetch-ahead1.ensures,
       c.ahead.ensures,
       c.fetch-word.ensures,

@@ -1,6 +1,7 @@
 -- The loop's invariant: what is left of the budget, run from here, is the run. Assumes nothing.
 use mathlib.Core.Path.{refl, sym, ◌∙◌}
 use native.Mathlib.Omega.{arith}
+use Rattle.stops.proofs.Numbers.{some_number}
 use Rattle.plain.proofs.Running as running
 use Rattle.runs.specs.Run.{engine}
 use Rattle.runs.proofs.RunLoop.{left-start, left_step}
@@ -17,11 +18,9 @@ skip-far-requires c = let l = c.loop-used.invariant.0 in (omega (arith, l.room, 
 pub overflow_add-used : goal.overflow_add-used
 overflow_add-used c = record { fits = omega (arith, (left-skip c.loop-used.invariant.0 c.skip-far.ensures).left.sum, c.requires.0) }
 
-pub shape_of-memory-then-stop-ne0 : goal.shape_of-memory-then-stop-ne0
-shape_of-memory-then-stop-ne0 c = c.skip-far.auto.memory ∙ c.loop-used.invariant.1
-
-pub returns-then-stop-ne0 : goal.returns-then-stop-ne0
-returns-then-stop-ne0 c = running.left-stop engine (left-skip c.loop-used.invariant.0 c.skip-far.ensures).left c.if-used-budget.true refl (sym (c.stop_found-stop.ensures _)) c.if-stop-ne0.true
+pub returns-in-Err : goal.returns-in-Err
+returns-in-Err c =
+    running.left-stop engine (left-skip c.loop-used.invariant.0 c.skip-far.ensures).left c.if-used-budget.true (rw c.into.ensures) (sym (c.in-Err.ensures _)) (some_number _)
 
 pub cycle-at-requires : goal.cycle-at-requires
 cycle-at-requires c = let l = left-skip c.loop-used.invariant.0 c.skip-far.ensures in (omega (arith, l.room), omega (arith, l.room, l.behind))
@@ -33,7 +32,7 @@ pub loop-used-smaller-then-used-budget : goal.loop-used-smaller-then-used-budget
 loop-used-smaller-then-used-budget c = omega (arith, c.if-used-budget.true)
 
 pub loop-used-preserved-then-used-budget : goal.loop-used-preserved-then-used-budget
-loop-used-preserved-then-used-budget c = (left_step (left-skip c.loop-used.invariant.0 c.skip-far.ensures) c.if-used-budget.true c.cycle-at.ensures (sym (c.stop_found-stop.ensures _) ∙ c.if-stop-ne0.false), c.cycle-at.auto.memory ∙ c.skip-far.auto.memory ∙ c.loop-used.invariant.1)
+loop-used-preserved-then-used-budget c = (left_step (left-skip c.loop-used.invariant.0 c.skip-far.ensures) c.if-used-budget.true c.cycle-at.ensures (sym (c.in_default.ensures _)), c.cycle-at.auto.memory ∙ c.skip-far.auto.memory ∙ c.loop-used.invariant.1)
 
 pub loop-used-smaller : goal.loop-used-smaller
 loop-used-smaller c = omega (arith, c.if-used-budget.false, c.loop-used-test.true)
