@@ -1,4 +1,6 @@
 // Step 1 of each class; pc is A+8.
+#![tactic(auto, unfolding(crate::specs::Steps::first_step))]
+
 ghost use Rattle.std.specs.Prelude.{◌≡◌};
 ghost use Rattle.memory.specs.Memory.{Memory};
 ghost use Rattle.bits.specs.Choice.{pick};

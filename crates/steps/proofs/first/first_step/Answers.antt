@@ -3,9 +3,6 @@ use Rattle.steps.specs.Steps.{first_step}
 use Rattle.steps.proofs.OwnSteps.{with-step, first_read}
 use Rattle.steps.proofs.first.first_step.Goals as goal
 
-pub returns-in-Processing : goal.returns-in-Processing
-returns-in-Processing c mem = first_read _ _ _ mem (sym c.in-Processing.is ∙ c.read.ensures) (c.first_processing.ensures mem)
-
 pub returns-in-Single : goal.returns-in-Single
 returns-in-Single c mem = first_read _ _ _ mem (sym c.in-Single.is ∙ c.read.ensures) (c.first_single.ensures mem)
 
@@ -14,12 +11,3 @@ returns-in-Block c mem = first_read _ _ _ mem (sym c.in-Block.is ∙ c.read.ensu
 
 pub returns-in-Branch : goal.returns-in-Branch
 returns-in-Branch c mem = first_read _ _ _ mem (sym c.in-Branch.is ∙ c.read.ensures) (c.first_branch.ensures mem)
-
-pub returns-in-Multiply : goal.returns-in-Multiply
-unfolding first_step
-returns-in-Multiply c mem = first_read _ _ _ mem (sym c.in-Multiply.is ∙ c.read.ensures) (with-step _ mem c.still.ensures)
-
-pub returns-in-Other : goal.returns-in-Other
-unfolding first_step
-returns-in-Other c mem =
-    first_read _ _ _ mem (sym c.in-Other.is ∙ c.read.ensures) (with-step _ mem c.still-in-Other.ensures)
