@@ -29,9 +29,8 @@ fn load_later(i: Single, k: u32, registers: &mut [u32; 15], memory: &[u8], found
 {
     if k == 0 {
         single::write_base(i, registers, found.latches.base);
-        let value = single::loaded_value(i, memory, found.board, found.latches.address);
         let latches = Latches {
-            datum: value,
+            datum: single::loaded_value(i, memory, found.board, found.latches.address),
             ..Latches::default()
         };
         on(found.flags, latches, 1)

@@ -1,10 +1,9 @@
-use mathlib.Core.Path.{sym, ap, ◌∙◌}
+use mathlib.Core.Path.{ap}
 use native.Mathlib.Omega.{arith}
 use lib.ListN.{length, length-drop}
 use Rattle.transfer.specs.Block.{named}
 use Rattle.transfer.proofs.NamedRegisters.{named-length}
-use Rattle.steps.proofs.OwnSteps.{with-step, last_as, load-left, load-none, load_one}
 use Rattle.steps.proofs.blocks.load_step.Goals as goal
 
 pub load_more-requires : goal.load_more-requires
-load_more-requires c = (omega (arith, c.count.ensures, ap length c.dropped-left.ensures.result_value, length-drop c.args.k (named c.args.list), named-length c.args.list, c.in_default.in_default-own.rest.1, c.in_default.in_default-own.rest.0.1), omega (arith, c.count.ensures, c.in_default.in_default-own.rest.1, c.in_default.in_default-own.rest.0.1))
+load_more-requires c = (omega (arith, c.count.ensures, ap length c.dropped-left.ensures.result_value, length-drop c.args.k (named c.args.list), named-length c.args.list), omega (arith, c.count.ensures))
