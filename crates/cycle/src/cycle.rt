@@ -15,11 +15,10 @@ use steps::{After, Ended, Phase, Step};
 fn fetched(p: Pipe, memory: &[u8], board: Board) -> Pipe
     ensures { result ≡ fetch p (memory_of board memory.now) }
 {
-    let ir1 = p.ir1;
     Pipe {
         pc: ahead(p.pc, 4),
         ir1: fetch(memory, board, p.pc),
-        ir2: ir1,
+        ir2: p.ir1,
         ..p
     }
 }
@@ -29,9 +28,7 @@ fn fetches(phase: Phase, p: Pipe, memory: &[u8], board: Board) -> Pipe
     ensures { result ≡ fetches phase p (memory_of board memory.now) }
 {
     match phase {
-        Phase::Step1 => fetched(p, memory, board),
-        Phase::Refill1 => fetched(p, memory, board),
-        Phase::Refill2 => fetched(p, memory, board),
+        Phase::Step1 | Phase::Refill1 | Phase::Refill2 => fetched(p, memory, board),
         Phase::Later(_) => p,
     }
 }
@@ -43,10 +40,7 @@ fn pipe_after(after: After, p: Pipe) -> Pipe
 {
     match after {
         After::More(_) => p,
-        After::Done(_) => {
-            let ir2 = p.ir2;
-            Pipe { ix: ir2, ..p }
-        }
+        After::Done(_) => Pipe { ix: p.ir2, ..p },
         After::Jump(word) => Pipe {
             pc: counter(word),
             ..p
@@ -70,13 +64,8 @@ fn retired_by(after: After, retired: u64) -> u64
     ensures { result ≡ retired_by after retired }
 {
     match after {
-        After::More(_) => retired,
-        After::Done(ended) => match ended {
-            Ended::Start => retired,
-            Ended::Skipped => retired + 1,
-            Ended::Executed => retired + 1,
-        },
-        After::Jump(_) => retired,
+        After::Done(Ended::Skipped | Ended::Executed) => retired + 1,
+        After::Done(Ended::Start) | After::More(_) | After::Jump(_) => retired,
     }
 }
 
@@ -95,15 +84,12 @@ fn close(s: Step, p: Pipe, c: Control) -> Control
     requires { (c.counts.cycles < 2 ^ 63) × (c.counts.retired < 2 ^ 63) }
     ensures { (g : List ℕ) (mem : Memory) → machine g result mem.bytes ≡ close (own g s mem) p c }
 {
-    let after = s.after;
-    let latches = s.latches;
-    let counts = c.counts;
     Control {
         flags: s.flags,
-        pipe: pipe_after(after, p),
-        phase: phase_after(after),
-        latches,
-        counts: counts_after(after, counts),
+        pipe: pipe_after(s.after, p),
+        phase: phase_after(s.after),
+        latches: s.latches,
+        counts: counts_after(s.after, c.counts),
         ..c
     }
 }
@@ -112,10 +98,7 @@ pub fn cycle(c: Control, registers: &mut [u32; 15], memory: &mut [u8]) -> Contro
     requires { (c.counts.cycles < 2 ^ 63) × (c.counts.retired < 2 ^ 63) }
     ensures { machine registers.new result memory.new ≡ cycle (machine registers.old c memory.old) }
 {
-    let phase = c.phase;
-    let pipe = c.pipe;
-    let board = c.board;
-    let p = fetches(phase, pipe, memory, board);
+    let p = fetches(c.phase, c.pipe, memory, c.board);
     let s = own(c, registers, memory);
     close(s, p, c)
 }

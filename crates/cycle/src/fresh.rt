@@ -15,11 +15,6 @@ pub fn fresh(flags: u32, entry: u32, board: Board) -> Control
         ir2: None,
         ix: None,
     };
-    let latches = Latches {
-        address: 0,
-        datum: 0,
-        base: 0,
-    };
     let counts = Counts {
         cycles: 0,
         retired: 0,
@@ -28,7 +23,7 @@ pub fn fresh(flags: u32, entry: u32, board: Board) -> Control
         flags,
         pipe,
         phase: Phase::Refill1,
-        latches,
+        latches: Latches::default(),
         counts,
         stop: 0,
         board,

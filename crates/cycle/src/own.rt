@@ -1,4 +1,6 @@
 // What the cycle of a phase does besides the fetch.
+#![tactic(auto, unfolding(crate::specs::Cycle::own_of, stops::specs::Stops::due))]
+
 ghost use Rattle.std.specs.Prelude.{◌≡◌, List, ℕ};
 ghost use Rattle.steps.specs.declared.Phase.TheVariants.{Step1, Later};
 ghost use Rattle.memory.specs.Memory.{memory_of};
@@ -24,14 +26,12 @@ fn skips(pc: u32) -> After
 fn step1(c: Control, registers: &mut [u32; 15]) -> Step
     ensures { (mem : List ℕ) → own registers.new result (memory_of c.board mem) ≡ own_of Step1 (machine registers.old c mem) }
 {
-    let pipe = c.pipe;
-    let ix = pipe.ix;
-    match ix {
+    match c.pipe.ix {
         Some(word) => {
             if passes(field(word, 28, 4), c.flags) {
-                first_step(word, registers, c.flags, pipe.pc)
+                first_step(word, registers, c.flags, c.pipe.pc)
             } else {
-                still(c.flags, skips(pipe.pc))
+                still(c.flags, skips(c.pipe.pc))
             }
         }
         None => still(c.flags, After::Done(Ended::Start)),
@@ -41,13 +41,11 @@ fn step1(c: Control, registers: &mut [u32; 15]) -> Step
 fn step_under_way(c: Control, k: u32, registers: &mut [u32; 15], memory: &mut [u8]) -> Step
     ensures { own registers.new result (memory_of c.board memory.new) ≡ own_of (Later k) (machine registers.old c memory.old) }
 {
-    let pipe = c.pipe;
-    let ix = pipe.ix;
-    match ix {
+    match c.pipe.ix {
         Some(word) => {
             let found = Found {
                 flags: c.flags,
-                pc: pipe.pc,
+                pc: c.pipe.pc,
                 latches: c.latches,
                 board: c.board,
             };
@@ -71,13 +69,10 @@ fn refilled(ix: Option<u32>) -> Ended
 pub fn own(c: Control, registers: &mut [u32; 15], memory: &mut [u8]) -> Step
     ensures { own registers.new result (memory_of c.board memory.new) ≡ own_of c.phase (machine registers.old c memory.old) }
 {
-    let phase = c.phase;
-    let pipe = c.pipe;
-    let ix = pipe.ix;
-    match phase {
+    match c.phase {
         Phase::Step1 => step1(c, registers),
         Phase::Refill1 => still(c.flags, After::More(Phase::Refill2)),
-        Phase::Refill2 => still(c.flags, After::Done(refilled(ix))),
+        Phase::Refill2 => still(c.flags, After::Done(refilled(c.pipe.ix))),
         Phase::Later(k) => step_under_way(c, k, registers, memory),
     }
 }

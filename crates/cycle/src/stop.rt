@@ -1,4 +1,6 @@
 // The stop found before step 1.
+#![tactic(auto, unfolding(crate::specs::StopFound::stop_found))]
+
 ghost use Rattle.std.specs.Prelude.{◌≡◌, List, ℕ};
 ghost use Rattle.stops.specs.Numbers.{stop_number};
 ghost use Rattle.cycle.specs.Machine.{machine};
@@ -22,17 +24,13 @@ pub fn is_step1(phase: Phase) -> bool
 pub fn stop_found(c: Control, registers: &[u32; 15]) -> Result<(), Stop>
     ensures { (mem : List ℕ) → stop_number result ≡ stop_found (machine registers.now c mem) }
 {
-    let phase = c.phase;
-    if is_step1(phase) {
-        let pipe = c.pipe;
-        let ix = pipe.ix;
-        let board = c.board;
+    if is_step1(c.phase) {
         let found = Context {
             flags: c.flags,
-            a: behind(pipe.pc, 8),
-            board,
+            a: behind(c.pipe.pc, 8),
+            board: c.board,
         };
-        stop_for(ix, registers, found)
+        stop_for(c.pipe.ix, registers, found)
     } else {
         Ok(())
     }
