@@ -16,7 +16,7 @@ image =
 -- started at 0 with zero registers and flags, budget 64
 abbrev pub reported : Ran Machine
 reported =
-    let core = (start (replicate 15 0) 0 0 image).core in
+    let core = (start (replicate 15 0) 0 0 image).machine in
     run (length image) 64 (machine core.registers core.control image)
 
 pub record Report : Type 0 where

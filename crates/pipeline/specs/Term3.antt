@@ -17,10 +17,10 @@ use Rattle.runs.specs.Run.{holding}
 
 -- what each machine's start hands back, with the memory that the start was lent
 unfoldable pub fresh : List ℕ → ℕ → ℕ → List ℕ → Machine
-fresh g flags entry mem = let k = (start g flags entry mem).core in machine k.registers k.control mem
+fresh g flags entry mem = let k = (start g flags entry mem).machine in machine k.registers k.control mem
 
 unfoldable pub plain_fresh : List ℕ → ℕ → ℕ → List ℕ → plain.Machine
-plain_fresh g flags entry mem = plain.machine (plain_calls.start g flags entry mem).plain mem
+plain_fresh g flags entry mem = plain.machine (plain_calls.start g flags entry mem).machine mem
 
 -- a start of both machines
 pub record Begins (g : List ℕ) (flags entry : ℕ) (mem : List ℕ) : Type 0 where
@@ -31,7 +31,7 @@ pub record Begins (g : List ℕ) (flags entry : ℕ) (mem : List ℕ) : Type 0 w
   pub given : (start g flags entry mem).answer ≡ 0 → plain_fresh g flags entry mem ≡ plain.machine (plain.plain g entry flags 0 (record { size = length mem })) mem
   -- a refused start hands back a zeroed record
   pub refused : (start g flags entry mem).answer ≢ 0
-      → ((start g flags entry mem).core ≡ zeroed) × ((plain_calls.start g flags entry mem).plain ≡ plain_calls.zeroed)
+      → ((start g flags entry mem).machine ≡ zeroed) × ((plain_calls.start g flags entry mem).machine ≡ plain_calls.zeroed)
 
 -- 2 plus the durations of the plain machine's first k instructions
 unfoldable pub sums : plain.Machine → ℕ → ℕ
