@@ -1,4 +1,6 @@
 // Step k + 2 of block transfers; pc is A+12.
+#![tactic(auto, unfolding(crate::specs::Steps::load_step, crate::specs::Steps::block_load_later, crate::specs::Steps::store_step, crate::specs::Steps::block_store_later, crate::specs::Steps::later_step))]
+
 ghost use Rattle.std.specs.Prelude.{◌≡◌, List, ℕ, ◌<◌, eqb, length, drop};
 ghost use Rattle.bits.specs.Choice.{pick};
 ghost use Rattle.word.specs.declared.Instruction.{Instruction};
@@ -8,7 +10,7 @@ ghost use Rattle.steps.specs.Steps.{own, done, next_to_move, load_step, block_lo
 
 use crate::ending::{last, on, still};
 use crate::{After, Ended, Found, Latches, Step};
-use memory::{Board, read_word, write_word};
+use memory::{read_word, write_word};
 use registers::{arrive, put};
 use transfer::block::next;
 use transfer::named::{count, dropped, lowest, rest};
@@ -24,7 +26,7 @@ fn next_to_move(n: u32, address: u32) -> u32
 
 // The first read of a block load, and the base.
 fn load_first(i: Block, registers: &mut [u32; 15], memory: &[u8], found: Found) -> Step
-    ensures { own registers.new result (memory_of board memory.now) ≡ block_load_later i 0 registers.old flags l (memory_of board memory.now) }
+    ensures { own registers.new result (memory_of found.board memory.now) ≡ block_load_later i 0 registers.old found.flags found.latches (memory_of found.board memory.now) }
 {
     block::write_base(i, registers, found.latches.base);
     let address = next_to_move(count(rest(i.list)), found.latches.address);
@@ -39,7 +41,7 @@ fn load_first(i: Block, registers: &mut [u32; 15], memory: &[u8], found: Found) 
 // One of several registers left takes the data latch, and the next word is read.
 fn load_more(k: u32, left: u32, registers: &mut [u32; 15], memory: &[u8], found: Found) -> Step
     requires { (k < 16) × (1 < length (block.named left)) }
-    ensures { own registers.new result (memory_of board memory.now) ≡ load_step k (block.named left) registers.old flags l (memory_of board memory.now) }
+    ensures { own registers.new result (memory_of found.board memory.now) ≡ load_step k (block.named left) registers.old found.flags found.latches (memory_of found.board memory.now) }
 {
     put(registers, lowest(left), found.latches.datum);
     let address = next_to_move(count(rest(rest(left))), found.latches.address);
@@ -53,7 +55,7 @@ fn load_more(k: u32, left: u32, registers: &mut [u32; 15], memory: &[u8], found:
 
 // Step k + 3 of a block load.
 fn load_step(k: u32, list: u32, registers: &mut [u32; 15], memory: &[u8], found: Found) -> Step
-    ensures { own registers.new result (memory_of board memory.now) ≡ load_step k (drop k (block.named list)) registers.old flags l (memory_of board memory.now) }
+    ensures { own registers.new result (memory_of found.board memory.now) ≡ load_step k (drop k (block.named list)) registers.old found.flags found.latches (memory_of found.board memory.now) }
 {
     let left = dropped(list, k);
     match count(left) {
@@ -75,7 +77,7 @@ fn store_base(i: Block, k: u32, registers: &mut [u32; 15], base: u32)
 // The data latch is written, and what it takes next.
 fn store_more(k: u32, left: u32, registers: &[u32; 15], memory: &mut [u8], found: Found) -> Step
     requires { (k < 16) × (1 < length (block.named left)) }
-    ensures { own registers.now result (memory_of board memory.new) ≡ store_step k (block.named left) registers.now flags pc l (memory_of board memory.old) }
+    ensures { own registers.now result (memory_of found.board memory.new) ≡ store_step k (block.named left) registers.now found.flags found.pc found.latches (memory_of found.board memory.old) }
 {
     write_word(
         memory,
@@ -93,7 +95,7 @@ fn store_more(k: u32, left: u32, registers: &[u32; 15], memory: &mut [u8], found
 }
 
 fn store_last(memory: &mut [u8], found: Found) -> Step
-    ensures { (g : List ℕ) → own g result (memory_of board memory.new) ≡ done g flags (write_word (memory_of board memory.old) found.latches.address found.latches.datum) }
+    ensures { (g : List ℕ) → own g result (memory_of found.board memory.new) ≡ done g found.flags (write_word (memory_of found.board memory.old) found.latches.address found.latches.datum) }
 {
     write_word(
         memory,
@@ -106,7 +108,7 @@ fn store_last(memory: &mut [u8], found: Found) -> Step
 
 // Step k + 2 of a block store, the base apart.
 fn store_step(k: u32, list: u32, registers: &[u32; 15], memory: &mut [u8], found: Found) -> Step
-    ensures { own registers.now result (memory_of board memory.new) ≡ store_step k (drop k (block.named list)) registers.now flags pc l (memory_of board memory.old) }
+    ensures { own registers.now result (memory_of found.board memory.new) ≡ store_step k (drop k (block.named list)) registers.now found.flags found.pc found.latches (memory_of found.board memory.old) }
 {
     let left = dropped(list, k);
     match count(left) {
@@ -123,7 +125,7 @@ fn block_load_later(
     memory: &[u8],
     found: Found,
 ) -> Step
-    ensures { own registers.new result (memory_of board memory.now) ≡ block_load_later i k registers.old flags l (memory_of board memory.now) }
+    ensures { own registers.new result (memory_of found.board memory.now) ≡ block_load_later i k registers.old found.flags found.latches (memory_of found.board memory.now) }
 {
     if k == 0 {
         load_first(i, registers, memory, found)
@@ -139,7 +141,7 @@ fn block_store_later(
     memory: &mut [u8],
     found: Found,
 ) -> Step
-    ensures { own registers.new result (memory_of board memory.new) ≡ block_store_later i k registers.old flags pc l (memory_of board memory.old) }
+    ensures { own registers.new result (memory_of found.board memory.new) ≡ block_store_later i k registers.old found.flags found.pc found.latches (memory_of found.board memory.old) }
 {
     store_base(i, k, registers, found.latches.base);
     store_step(k, i.list, registers, memory, found)
@@ -152,7 +154,7 @@ pub fn later_block(
     memory: &mut [u8],
     found: Found,
 ) -> Step
-    ensures { own registers.new result (memory_of board memory.new) ≡ later_step (Instruction.Block i) k registers.old flags pc l (memory_of board memory.old) }
+    ensures { own registers.new result (memory_of found.board memory.new) ≡ later_step (Instruction.Block i) k registers.old found.flags found.pc found.latches (memory_of found.board memory.old) }
 {
     if i.l {
         block_load_later(i, k, registers, memory, found)

@@ -31,8 +31,7 @@ pub fn still(flags: u32, after: After) -> Step
 pub fn last(t: Outcome) -> Step
     ensures { result ≡ still t.flags (ends t.goes) }
 {
-    let goes = t.goes;
-    still(t.flags, ends(goes))
+    still(t.flags, ends(t.goes))
 }
 
 // The instruction goes on with step k + 2.

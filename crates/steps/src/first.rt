@@ -1,4 +1,6 @@
 // Step 1 of each class; pc is A+8.
+#![tactic(auto, unfolding(crate::specs::Steps::first_step))]
+
 ghost use Rattle.std.specs.Prelude.{◌≡◌};
 ghost use Rattle.memory.specs.Memory.{Memory};
 ghost use Rattle.bits.specs.Choice.{pick};
@@ -22,8 +24,7 @@ use word::{Block, Branch, Instruction, Processing, Single, reader};
 fn first_processing(i: Processing, registers: &mut [u32; 15], flags: u32, pc: u32) -> Step
     ensures { (mem : Memory) → own registers.new result mem ≡ first_step (Instruction.Processing i) registers.old flags pc mem }
 {
-    let o = i.operand;
-    if shifts_by_register(o) {
+    if shifts_by_register(i.operand) {
         still(flags, After::More(Phase::Later(0)))
     } else {
         last(process(i, registers, flags, pc))

@@ -1,5 +1,7 @@
 // Step k + 2 of each class; pc is A+12.
-ghost use Rattle.std.specs.Prelude.{◌≡◌, ℕ};
+#![tactic(auto, unfolding(crate::specs::Steps::load_later, crate::specs::Steps::store_later, crate::specs::Steps::multiply_later, crate::specs::Steps::later_step))]
+
+ghost use Rattle.std.specs.Prelude.{◌≡◌};
 ghost use Rattle.memory.specs.Memory.{Memory, memory_of};
 ghost use Rattle.word.specs.declared.Instruction.{Instruction};
 ghost use Rattle.word.specs.Reader.{read_of};
@@ -9,7 +11,6 @@ ghost use Rattle.steps.specs.Steps.{own, last, load_later, store_later, multiply
 use crate::blocks::later_block;
 use crate::ending::{last, on, still};
 use crate::{After, Ended, Found, Latches, Phase, Step};
-use memory::Board;
 use multiply::{m_of, multiply};
 use processing::process;
 use registers::{arrive, register};
@@ -24,13 +25,12 @@ fn later_processing(i: Processing, registers: &mut [u32; 15], flags: u32, pc: u3
 
 // A load: read and base; register.
 fn load_later(i: Single, k: u32, registers: &mut [u32; 15], memory: &[u8], found: Found) -> Step
-    ensures { own registers.new result (memory_of board memory.now) ≡ load_later i k registers.old flags l (memory_of board memory.now) }
+    ensures { own registers.new result (memory_of found.board memory.now) ≡ load_later i k registers.old found.flags found.latches (memory_of found.board memory.now) }
 {
     if k == 0 {
         single::write_base(i, registers, found.latches.base);
-        let value = single::loaded_value(i, memory, found.board, found.latches.address);
         let latches = Latches {
-            datum: value,
+            datum: single::loaded_value(i, memory, found.board, found.latches.address),
             ..Latches::default()
         };
         on(found.flags, latches, 1)
@@ -41,7 +41,7 @@ fn load_later(i: Single, k: u32, registers: &mut [u32; 15], memory: &[u8], found
 
 // A store: write and base.
 fn store_later(i: Single, registers: &mut [u32; 15], memory: &mut [u8], found: Found) -> Step
-    ensures { own registers.new result (memory_of board memory.new) ≡ store_later i registers.old flags l (memory_of board memory.old) }
+    ensures { own registers.new result (memory_of found.board memory.new) ≡ store_later i registers.old found.flags found.latches (memory_of found.board memory.old) }
 {
     single::write_base(i, registers, found.latches.base);
     single::store(
@@ -61,7 +61,7 @@ fn later_single(
     memory: &mut [u8],
     found: Found,
 ) -> Step
-    ensures { (pc : ℕ) → own registers.new result (memory_of board memory.new) ≡ later_step (Instruction.Single i) k registers.old flags pc l (memory_of board memory.old) }
+    ensures { own registers.new result (memory_of found.board memory.new) ≡ later_step (Instruction.Single i) k registers.old found.flags found.pc found.latches (memory_of found.board memory.old) }
 {
     if i.l {
         load_later(i, k, registers, memory, found)
@@ -90,7 +90,7 @@ pub fn later_step(
     memory: &mut [u8],
     found: Found,
 ) -> Step
-    ensures { own registers.new result (memory_of board memory.new) ≡ later_step (read_of word) k registers.old flags pc l (memory_of board memory.old) }
+    ensures { own registers.new result (memory_of found.board memory.new) ≡ later_step (read_of word) k registers.old found.flags found.pc found.latches (memory_of found.board memory.old) }
 {
     match reader::read(word) {
         Instruction::Processing(i) => later_processing(i, registers, found.flags, found.pc),

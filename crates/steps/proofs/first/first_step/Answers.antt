@@ -1,25 +1,10 @@
-use Rattle.std.proofs.Common.{sym, ◌∙◌}
-use Rattle.steps.specs.Steps.{first_step}
-use Rattle.steps.proofs.OwnSteps.{with-step, first_read}
 use Rattle.steps.proofs.first.first_step.Goals as goal
 
-pub returns-in-Processing : goal.returns-in-Processing
-returns-in-Processing c mem = first_read _ _ _ mem (sym c.in-Processing.is ∙ c.read.ensures) (c.first_processing.ensures mem)
-
 pub returns-in-Single : goal.returns-in-Single
-returns-in-Single c mem = first_read _ _ _ mem (sym c.in-Single.is ∙ c.read.ensures) (c.first_single.ensures mem)
+returns-in-Single c mem = rw (← c.read.ensures, c.in-Single.is, c.first_single.ensures mem)
 
 pub returns-in-Block : goal.returns-in-Block
-returns-in-Block c mem = first_read _ _ _ mem (sym c.in-Block.is ∙ c.read.ensures) (c.first_block.ensures mem)
+returns-in-Block c mem = rw (← c.read.ensures, c.in-Block.is, c.first_block.ensures mem)
 
 pub returns-in-Branch : goal.returns-in-Branch
-returns-in-Branch c mem = first_read _ _ _ mem (sym c.in-Branch.is ∙ c.read.ensures) (c.first_branch.ensures mem)
-
-pub returns-in-Multiply : goal.returns-in-Multiply
-unfolding first_step
-returns-in-Multiply c mem = first_read _ _ _ mem (sym c.in-Multiply.is ∙ c.read.ensures) (with-step _ mem c.still.ensures)
-
-pub returns-in-Other : goal.returns-in-Other
-unfolding first_step
-returns-in-Other c mem =
-    first_read _ _ _ mem (sym c.in-Other.is ∙ c.read.ensures) (with-step _ mem c.still-in-Other.ensures)
+returns-in-Branch c mem = rw (← c.read.ensures, c.in-Branch.is, c.first_branch.ensures mem)
