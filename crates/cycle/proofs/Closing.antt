@@ -3,6 +3,7 @@
 use Rattle.std.specs.Prelude.{Some, None}
 use Prim.Native.Nat.{ℕ}
 use mathlib.Core.Path.{◌≡◌, sym, ap, ◌∙◌}
+use mathlib.Core.List.{List}
 use mathlib.Core.Bool.{Bool, true, false}
 use Rattle.bits.specs.Bits.{field}
 use Rattle.word.specs.Reader.{read_of}
@@ -15,10 +16,15 @@ use Rattle.steps.specs.declared.Ended.{Ended}
 use Rattle.steps.specs.declared.Ended.TheVariants.{Start}
 use Rattle.steps.specs.declared.After.{After}
 use Rattle.steps.specs.declared.After.TheVariants.{More, Done}
-use Rattle.steps.specs.Steps.{Own, first_step, later_step}
+use Rattle.steps.specs.declared.Step.{Step}
+use Rattle.steps.specs.Steps.{Own, own, first_step, later_step}
 use Rattle.cycle.specs.declared.Pipe.{Pipe}
 use Rattle.cycle.specs.Machine.{Machine, lent}
 use Rattle.cycle.specs.Cycle.{refilled, skips, quiet, own_of, fetches, close, cycle}
+
+-- a step that a call left, with the registers and the memory
+pub with-step : (g : List ℕ) (mem : Memory) {r s : Step} → r ≡ s → own g r mem ≡ own g s mem
+with-step g mem e = ap (λ (x : Step). own g x mem) e
 
 module _ (m : Machine) {r : Own} where
   -- step 1 of a word: its condition passes, or fails

@@ -1,5 +1,4 @@
-use Rattle.steps.proofs.OwnSteps.{with-step}
-use Rattle.cycle.proofs.Closing.{in-phase, refill-first, refill-second}
+use Rattle.cycle.proofs.Closing.{with-step, in-phase, refill-first, refill-second}
 use Rattle.cycle.proofs.own.own.Goals as goal
 
 pub returns-in-Step1 : goal.returns-in-Step1

@@ -1,5 +1,4 @@
-use Rattle.steps.proofs.OwnSteps.{with-step}
-use Rattle.cycle.proofs.Closing.{passing, failing, blank-first}
+use Rattle.cycle.proofs.Closing.{with-step, passing, failing, blank-first}
 use Rattle.cycle.proofs.own.step1.Goals as goal
 
 pub returns-then-passes : goal.returns-then-passes

@@ -1,5 +1,4 @@
-use Rattle.steps.proofs.OwnSteps.{with-step}
-use Rattle.cycle.proofs.Closing.{word-later, blank-later}
+use Rattle.cycle.proofs.Closing.{with-step, word-later, blank-later}
 use Rattle.cycle.proofs.own.step_under_way.Goals as goal
 
 pub returns-in-Some : goal.returns-in-Some
