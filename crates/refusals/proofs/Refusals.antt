@@ -1,12 +1,18 @@
 -- What a record that isn't bad has, and what an accepted run may rely on.
 -- Assumes nothing.
+use Rattle.std.specs.Prelude.{Option, Result, Ok, Err, MatchResult, is_ok, leb}
+use Rattle.std.specs.Result.{result_ok}
 use Prim.Native.Nat.{ℕ, ◌+◌, ◌≤◌}
 use mathlib.Core.Path.{◌≡◌, refl, sym, ap, ◌∙◌}
-use mathlib.Core.Bool.{Bool, true, false, not}
+use mathlib.Core.Bool.{Bool, true, false, not, ◌&&◌}
 use native.Mathlib.Omega.{arith}
 use lib.Dec.{eqb, ltb}
 use borrow.Author.Tests.{ltb-false, not-false}
 use Rattle.bits.specs.Choice.{pick}
+use Rattle.stops.specs.declared.reason.Stop.{Stop}
+use Rattle.stops.specs.declared.reason.NoStop.{NoStop}
+use Rattle.stops.specs.Numbers.{no_word, fetched_word, number_of, held_number}
+use Rattle.plain.proofs.Accepted.{none-held}
 use Rattle.plain.specs.Numbers.{bad_length, bad_flags, bad_budget, is_counter, is_stop}
 use Rattle.steps.specs.declared.Phase.{Phase}
 use Rattle.steps.proofs.Both.{or-false}
@@ -24,6 +30,7 @@ pub record Good (m : Machine) : Type 0 where
   pub flags : bad_flags m.control.flags ≡ false
   pub few : m.control.counts.cycles ≤ most_cycles
   pub behind : m.control.counts.retired ≤ m.control.counts.cycles
+  pub stop : is_stop m.control.stop ≡ true
   pub phase : bad_phase m.control.phase m ≡ false
 
 pub good : (m : Machine) → bad m ≡ false → Good m
@@ -42,6 +49,7 @@ good m e =
       flags = e3.0;
       few = ltb-false most_cycles c.counts.cycles e4.0;
       behind = ltb-false c.counts.cycles c.counts.retired e5.0;
+      stop = not-false (is_stop c.stop) e6.0;
       phase = (or-false (held_away c.phase c.stop) e6.1).1;
     }
 
@@ -49,6 +57,7 @@ good m e =
 pub record Granted (budget : ℕ) (c : Control) : Type 0 where
   pub room : c.counts.cycles + budget ≤ most_cycles
   pub behind : c.counts.retired ≤ c.counts.cycles
+  pub standing : is_stop c.stop ≡ true
 
 -- a test with a number passed
 pub passed : (b : Bool) {q m : ℕ} → pick b q m ≡ 0 → (q ≡ 0 → ⊥) → (b ≡ false) × (m ≡ 0)
@@ -65,4 +74,11 @@ granted lent budget m e =
     record {
       room = ltb-false most_cycles (m.control.counts.cycles + budget) t.0;
       behind = (good m b.0).behind;
+      standing = (good m b.0).stop;
     }
+
+-- the stop that a number held stands for
+pub held-as : (q : ℕ) (r : Result Stop NoStop) {o : Option Stop} → o ≡ result_ok r → is_ok r ≡ (leb no_word q && leb q fetched_word)
+    → MatchResult r (λ (stop : Stop). number_of stop ≡ q) (λ (n : NoStop). Unit {0}) → is_stop q ≡ true → held_number o ≡ q
+held-as q (Ok stop) e k g h = ap held_number e ∙ g
+held-as q (Err none) e k g h = ap held_number e ∙ sym (none-held q h k)

@@ -1,8 +1,9 @@
 use Rattle.semantics.specs.Duration.{own_steps}
 use Rattle.stops.specs.Rules.{rule_broken}
 use Rattle.refusals.specs.Numbers.{bad_within}
+use Rattle.refusals.proofs.UnderWay.{broken}
 use Rattle.refusals.proofs.under_way.bad_single.Goals as goal
 
 pub returns : goal.returns
 unfolding bad_within rule_broken own_steps
-returns c g mem = rw (c.outside.ensures, c.left.ensures, c.has_step.ensures, c.single_rule.ensures, c.single_steps-steps.ensures)
+returns c g mem = rw (c.outside.ensures, c.left.ensures, c.has_step.ensures, broken _ c.is_err.ensures.value c.single_rule.ensures, c.single_steps-steps.ensures)
