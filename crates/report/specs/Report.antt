@@ -4,9 +4,9 @@ use Rattle.bits.specs.Choice.{pick}
 use Rattle.text.specs.Text.{hex_digits, decimal}
 use Rattle.cycle.specs.declared.Control.{Control}
 use Rattle.cycle.specs.Machine.{Machine, machine}
-use Rattle.pipeline.specs.declared.CoreStarted.{CoreStarted}
+use Rattle.pipeline.specs.declared.Core.{Core}
 use Rattle.pipeline.specs.Calls.{start, run}
-use Rattle.plain.specs.Running.{Ran}
+use Rattle.plain.specs.Running.{Ran, Started}
 use Rattle.report.specs.Lines.{line, register_lines}
 
 -- answer=
@@ -27,11 +27,11 @@ abbrev pub budget : ℕ
 budget = 64
 
 -- the start and the run of an image
-unfoldable pub begun : List ℕ → CoreStarted
+unfoldable pub begun : List ℕ → Started Core
 begun image = start (replicate 15 0) 0 0 image
 
 unfoldable pub finished : List ℕ → Ran Machine
-finished image = run (length image) budget (machine (begun image).core.registers (begun image).core.control image)
+finished image = run (length image) budget (machine (begun image).machine.registers (begun image).machine.control image)
 
 abbrev pub accepted : List ℕ → Bool
 accepted image = eqb (begun image).answer 0

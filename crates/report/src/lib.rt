@@ -3,12 +3,13 @@
 
 mod lines;
 
-ghost use Rattle.std.specs.Prelude.{◌≡◌};
+ghost use Rattle.std.specs.Prelude.{◌≡◌, ◌++◌};
 ghost use Rattle.text.specs.Output.{put};
 ghost use Rattle.report.specs.Report.{answer_line, core_lines, report_text, image_after};
 
 use lines::{decimal_line, hex_line, register_lines};
 use pipeline::Core;
+use stops::reason::number;
 use text::Text;
 
 // How many cycles the run may take (the paper's).
@@ -35,21 +36,26 @@ fn core_lines(text: &mut Text, core: &Core)
     register_lines(text, &core.registers);
 }
 
+fn run_lines(text: &mut Text, answer: u32, core: &Core)
+    ensures { text.new ≡ put text.old (answer_line answer ++ core_lines core.now.registers core.now.control) }
+{
+    answer_line(text, answer);
+    core_lines(text, core);
+}
+
 // An image that the start refuses leaves its answer's line only.
 pub fn report(image: &mut [u8]) -> Text
     ensures text { result ≡ report_text image.old }
     ensures image { image.new ≡ image_after image.old }
 {
     let mut text = Text::new();
-    let begun = Core::start([0; 15], 0, 0, image);
-    let refusal = begun.answer;
-    if refusal != 0 {
-        answer_line(&mut text, refusal);
-        return text;
+    match Core::start([0; 15], 0, 0, image) {
+        Ok(core) => match core.run(image, BUDGET) {
+            Ok(ran) => run_lines(&mut text, number(ran.stop), &ran.machine),
+            Err(refusal) => run_lines(&mut text, refusal.into(), &core),
+        },
+        Err(refusal) => answer_line(&mut text, refusal.into()),
     }
-    let ran = begun.core.run(image, BUDGET);
-    answer_line(&mut text, ran.answer);
-    core_lines(&mut text, &ran.core);
     text
 }
 

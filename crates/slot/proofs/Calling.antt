@@ -11,12 +11,11 @@ use Rattle.writer.specs.Writer.{Answer, answer_of, write_of}
 use Rattle.word.specs.declared.Instruction.{Instruction}
 use Rattle.pipeline.specs.declared.Core.{Core}
 use Rattle.cycle.specs.Machine as pipelined
-use Rattle.pipeline.specs.declared.CoreStarted.{CoreStarted}
 use Rattle.pipeline.specs.Calls as pipeline
 use Rattle.plain.specs.declared.Plain.{Plain}
 use Rattle.plain.specs.Machine as unpiped
 use Rattle.plain.specs.Running.{Ran, ran}
-use Rattle.plain.specs.declared.PlainStarted.{PlainStarted}
+use Rattle.plain.specs.Running as running
 use Rattle.plain.specs.Run as plain
 use Rattle.core_arrays.specs.CoreArray as core_array
 use Rattle.plain_arrays.specs.PlainArray as plain_array
@@ -24,13 +23,13 @@ use Rattle.record_arrays.specs.RecordArray.{record_of, stands_for_record}
 use Rattle.slot.specs.Calls.{Called, started, called, is_refusal, refused, unless_refused, core_begun, core_start, core_called, core_machine, refusal_of, core_run, plain_begun, plain_start, plain_called, plain_run, answer, word_of}
 use Rattle.slot.proofs.Refusing.{core-kept, plain-kept}
 
-pub core-started : (g : List ℕ) (f e : ℕ) (mem : List ℕ) {b : CoreStarted} {p : List ℕ}
-    → b ≡ pipeline.start g f e mem → p ≡ core_array.packed b.core → started b.answer p ≡ core_start g f e mem
+pub core-started : (g : List ℕ) (f e : ℕ) (mem : List ℕ) {b : running.Started Core} {p : List ℕ}
+    → b ≡ pipeline.start g f e mem → p ≡ core_array.packed b.machine → started b.answer p ≡ core_start g f e mem
 unfolding core_start
 core-started g f e mem {b} q h = ap (λ (p : List ℕ). started b.answer p) h ∙ ap core_begun q
 
-pub plain-started : (g : List ℕ) (f e : ℕ) (mem : List ℕ) {b : PlainStarted} {p : List ℕ}
-    → b ≡ plain.start g f e mem → p ≡ plain_array.packed b.plain → started b.answer p ≡ plain_start g f e mem
+pub plain-started : (g : List ℕ) (f e : ℕ) (mem : List ℕ) {b : running.Started Plain} {p : List ℕ}
+    → b ≡ plain.start g f e mem → p ≡ plain_array.packed b.machine → started b.answer p ≡ plain_start g f e mem
 unfolding plain_start
 plain-started g f e mem {b} q h = ap (λ (p : List ℕ). started b.answer p) h ∙ ap plain_begun q
 

@@ -1,4 +1,5 @@
 pub mod Refusing
+pub mod Refused
 pub mod Calling
 pub mod Refusals
 pub mod Settling

@@ -4,12 +4,12 @@ use Rattle.bits.specs.Choice.{pick}
 use Rattle.writer.specs.Writer.{Answer, no_word_for, write_of}
 use Rattle.pipeline.specs.declared.Core.{Core}
 use Rattle.cycle.specs.Machine as pipelined
-use Rattle.pipeline.specs.declared.CoreStarted.{CoreStarted}
 use Rattle.pipeline.specs.Calls as pipeline
 use Rattle.plain.specs.Refused.{record_refused, other_memory}
 use Rattle.plain.specs.Machine as unpiped
 use Rattle.plain.specs.Running.{Ran}
-use Rattle.plain.specs.declared.PlainStarted.{PlainStarted}
+use Rattle.plain.specs.Running as running
+use Rattle.plain.specs.declared.Plain.{Plain}
 use Rattle.plain.specs.Run as plain
 use Rattle.core_arrays.specs.CoreArray as core_array
 use Rattle.plain_arrays.specs.PlainArray as plain_array
@@ -45,8 +45,8 @@ refused answer words mem = called answer 0 words mem
 abbrev pub unless_refused : List ℕ → List ℕ → Called → Called
 unless_refused words mem r = pick (is_refusal r.answer) (refused r.answer words mem) r
 
-abbrev pub core_begun : CoreStarted → Started
-core_begun b = started b.answer (core_array.packed b.core)
+abbrev pub core_begun : running.Started Core → Started
+core_begun b = started b.answer (core_array.packed b.machine)
 
 -- registers, flags, entry, memory
 unfoldable pub core_start : List ℕ → ℕ → ℕ → List ℕ → Started
@@ -77,8 +77,8 @@ core_run words mem budget =
     (unless_refused words mem (core_called (pipeline.run (length mem) budget (core_machine (core_array.unpacked words) mem))))
     (refused (refusal_of words (length mem)) words mem)
 
-abbrev pub plain_begun : PlainStarted → Started
-plain_begun b = started b.answer (plain_array.packed b.plain)
+abbrev pub plain_begun : running.Started Plain → Started
+plain_begun b = started b.answer (plain_array.packed b.machine)
 
 unfoldable pub plain_start : List ℕ → ℕ → ℕ → List ℕ → Started
 plain_start g flags entry mem = plain_begun (plain.start g flags entry mem)

@@ -1,6 +1,7 @@
-// Which answers are refusals, and what a core's array refuses with.
+// What a core's array refuses with.
 ghost use Rattle.std.specs.Prelude.{◌≡◌};
-ghost use Rattle.slot.specs.Calls.{is_refusal, other_length, array_refusal, refusal_of};
+ghost use Rattle.plain.specs.Refused.{refusal_number};
+ghost use Rattle.slot.specs.Calls.{other_length, array_refusal, refusal_of};
 
 use core_arrays::CoreArray;
 use core_arrays::unpacking::{length_in, stands_for_core};
@@ -13,7 +14,7 @@ fn other_length(lent: usize, length: u32) -> bool
 }
 
 fn array_refusal(differs: bool, stands: bool) -> Result<(), Refusal>
-    ensures { result ≡ array_refusal differs stands }
+    ensures { refusal_number result ≡ array_refusal differs stands }
 {
     if differs {
         return Err(Refusal::OtherMemory);
@@ -26,7 +27,7 @@ fn array_refusal(differs: bool, stands: bool) -> Result<(), Refusal>
 
 // What the array refuses with before its core is run, or 0.
 pub fn refusal_of(words: &CoreArray, lent: usize) -> Result<(), Refusal>
-    ensures { result ≡ refusal_of words.now lent }
+    ensures { refusal_number result ≡ refusal_of words.now lent }
 {
     array_refusal(other_length(lent, length_in(words)), stands_for_core(words))
 }

@@ -1,14 +1,14 @@
-use mathlib.Core.Path.{sym, ◌∙◌}
+use Rattle.std.proofs.Common.{refl}
+use Rattle.plain.proofs.Told.{some_number}
 use Rattle.slot.proofs.Calling.{array-refused, core_refused, core-ran}
+use Rattle.slot.proofs.Refused.{of_refusal, of_stop}
 use Rattle.slot.proofs.core_calls.slot_core_run.Goals as goal
 
-pub returns-then-refusal-ne0 : goal.returns-then-refusal-ne0
-returns-then-refusal-ne0 c = array-refused _ _ _ c.refusal_of-refusal.ensures c.if-refusal-ne0.true
+pub returns-in-Err : goal.returns-in-Err
+returns-in-Err c = rw c.into.ensures (array-refused _ _ _ c.in-Err.ensures (some_number _))
 
-pub returns-then-is_refusal : goal.returns-then-is_refusal
-returns-then-is_refusal c =
-    core_refused _ _ _ c.refusal_of-refusal.ensures c.if-refusal-ne0.false c.unpacked.ensures c.run-ran.ensures (sym c.is_refusal.ensures ∙ c.if-is_refusal.true)
+pub returns-in-Ok : goal.returns-in-Ok
+returns-in-Ok c = rw c.number.ensures (core-ran _ _ _ c.in_default.ensures refl c.unpacked.ensures c.in-Ok.ensures (of_stop c.in-Ok.ran.stop) c.pack.ensures)
 
-pub returns : goal.returns
-returns c =
-    core-ran _ _ _ c.refusal_of-refusal.ensures c.if-refusal-ne0.false c.unpacked.ensures c.run-ran.ensures (sym c.is_refusal.ensures ∙ c.if-is_refusal.false) c.pack.ensures
+pub returns-in-Err-run : goal.returns-in-Err-run
+returns-in-Err-run c = rw c.into-in-Err-run.ensures (core_refused _ _ _ c.in_default.ensures refl c.unpacked.ensures c.in-Err-run.ensures (of_refusal c.in-Err-run.refusal))

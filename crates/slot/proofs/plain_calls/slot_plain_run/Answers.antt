@@ -1,11 +1,9 @@
-use mathlib.Core.Path.{sym, ◌∙◌}
 use Rattle.slot.proofs.Calling.{plain-refused, plain-ran}
+use Rattle.slot.proofs.Refused.{of_refusal, of_stop}
 use Rattle.slot.proofs.plain_calls.slot_plain_run.Goals as goal
 
-pub returns-then-is_refusal : goal.returns-then-is_refusal
-returns-then-is_refusal c =
-    plain-refused _ _ _ c.unpacked.ensures c.run-ran.ensures (sym c.is_refusal.ensures ∙ c.if-is_refusal.true)
+pub returns-in-Ok : goal.returns-in-Ok
+returns-in-Ok c = rw c.number.ensures (plain-ran _ _ _ c.unpacked.ensures c.in-Ok.ensures (of_stop c.in-Ok.ran.stop) c.pack.ensures)
 
-pub returns : goal.returns
-returns c =
-    plain-ran _ _ _ c.unpacked.ensures c.run-ran.ensures (sym c.is_refusal.ensures ∙ c.if-is_refusal.false) c.pack.ensures
+pub returns-in-Err : goal.returns-in-Err
+returns-in-Err c = rw c.into.ensures (plain-refused _ _ _ c.unpacked.ensures c.in-Err.ensures (of_refusal c.in-Err.refusal))
