@@ -2,71 +2,43 @@
 use crate::state;
 use memory::Board;
 use plain::{Plain, PlainStarted};
+use tokens::mode::Mode;
 use tokens::{buffer, print, token};
 
-#[derive(Clone, Copy)]
-struct Case {
-    mode: u32,
-    length: u32,
-    lent: u32,
-    entry: u32,
-    flags: u32,
-    stop: u32,
-    count: u32,
-    words: u32,
-}
-
-// Mode 0 starts; any other takes the record as it is given.
-fn begin(c: Case, registers: [u32; 15], memory: &[u8]) -> PlainStarted {
-    if c.mode == 0 {
-        return Plain::start(registers, c.flags, c.entry, memory);
-    }
-    let board = Board { size: c.length };
-    PlainStarted {
-        answer: 0,
-        plain: Plain {
-            registers,
-            a: c.entry,
-            flags: c.flags,
-            stop: c.stop,
-            board,
+// A record, started or taken as it is given.
+fn begin(mode: Mode, given: Plain, memory: &[u8]) -> PlainStarted {
+    match mode {
+        Mode::Start => Plain::start(given.registers, given.flags, given.a, memory),
+        Mode::Take => PlainStarted {
+            answer: 0,
+            plain: given,
         },
     }
 }
 
-// The memory of a case is the first bytes of a whole buffer, which `report` lends.
-fn work(c: Case, registers: [u32; 15], whole: &mut [u8]) {
-    let length = buffer::bytes(whole, c.length);
-    let memory = &mut whole[..length];
-    buffer::read_words(memory, c.words);
-    let started = begin(c, registers, memory);
-    let plain = started.plain;
-    let lent = buffer::bytes(whole, c.lent);
-    let ran = plain.run(&mut whole[..lent], c.count as u64);
-    state::print_record(started.answer, ran);
-    state::print_memory(whole, state::shown(length));
-    print::bytes(b"\n");
-}
-
-// Answers whether there was a case.
+// Answers whether there was a case. Its memory is the first bytes of a whole buffer.
 pub fn report() -> bool {
-    let mut head = [0u32; 8];
-    if !token::read(&mut head) {
+    let Some(head) = token::read::<8>() else {
         return false;
-    }
-    let c = Case {
-        mode: head[0],
-        length: head[1],
-        lent: head[2],
-        entry: head[3],
-        flags: head[4],
-        stop: head[5],
-        count: head[6],
-        words: head[7],
     };
-    let mut registers = [0u32; 15];
-    token::read(&mut registers);
-    let mut whole = [0u8; buffer::BYTES];
-    work(c, registers, &mut whole);
+    let [mode, length, lent, entry, flags, stop, count, words] = head;
+    let registers = token::read_padded();
+    let given = Plain {
+        registers,
+        a: entry,
+        flags,
+        stop,
+        board: Board { size: length },
+    };
+    let mut whole = [0; buffer::BYTES];
+    let length = buffer::bytes(&whole, length);
+    let memory = &mut whole[..length];
+    buffer::read_words(memory, words);
+    let started = begin(Mode::from(mode), given, memory);
+    let lent = buffer::bytes(&whole, lent);
+    let ran = started.plain.run(&mut whole[..lent], u64::from(count));
+    state::print(started.answer, &ran);
+    buffer::print_words(&whole, length);
+    print::bytes(b"\n");
     true
 }

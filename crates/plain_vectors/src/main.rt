@@ -5,8 +5,5 @@ mod case;
 mod state;
 
 fn main() {
-    let mut left = tokens::CASES;
-    while left > 0 && case::report() {
-        left -= 1;
-    }
+    tokens::each_case(|| case::report());
 }

@@ -4,23 +4,19 @@
 use tokens::{buffer, print, token};
 
 fn main() {
-    for _ in 0..tokens::CASES {
-        if !case() {
-            break;
-        }
-    }
+    tokens::each_case(|| case());
 }
 
 // A case: `length k`, then k words of the image. Its report is followed by a line that ends it. Answers whether there was one.
 fn case() -> bool {
-    let mut head = [0u32; 2];
-    if !token::read(&mut head) {
+    let Some(head) = token::read::<2>() else {
         return false;
-    }
-    let mut memory = [0u8; buffer::BYTES];
-    let length = buffer::bytes(&memory, head[0]);
+    };
+    let [length, words] = head;
+    let mut memory = [0; buffer::BYTES];
+    let length = buffer::bytes(&memory, length);
     let image = &mut memory[..length];
-    buffer::read_words(image, head[1]);
+    buffer::read_words(image, words);
     report::print(image);
     print::bytes(b"--\n");
     true

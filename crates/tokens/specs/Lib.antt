@@ -1,1 +1,3 @@
 pub mod Token
+pub mod Mode
+pub mod Cases

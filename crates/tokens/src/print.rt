@@ -1,4 +1,7 @@
 // Text and numbers on standard output.
+ghost use Rattle.std.specs.Prelude.{◌≡◌};
+ghost use Rattle.tokens.specs.Token.{printed};
+
 use text::Text;
 
 // Standard output's number.
@@ -16,13 +19,24 @@ pub fn field(name: &[u8], value: u32, digits: usize) {
     bytes(text.as_slice());
 }
 
-// The next token of a line.
-pub fn next(value: u32) {
-    field(b" ", value, 8);
+// A token of a line: a word behind a space.
+#[tactic(auto, using(crate::proofs::Printed::put_printed))]
+fn token(word: u32) -> Text
+    ensures { result ≡ printed word }
+{
+    let mut text = Text::new();
+    text.literal(b" ");
+    text.hex(word, 8);
+    text
 }
 
-pub fn words(values: &[u32]) {
-    for i in 0..values.len() {
-        next(values[i]);
+// The next token of a line.
+pub fn next(word: u32) {
+    bytes(token(word).as_slice());
+}
+
+pub fn words(words: &[u32]) {
+    for word in words {
+        next(*word);
     }
 }
