@@ -4,18 +4,16 @@ use arrays::registers_of;
 use core_arrays::CoreArray;
 use core_arrays::packing::pack;
 use core_arrays::unpacking::unpacked;
-use pipeline::{Core, CoreStarted};
+use pipeline::{Core, zeroed};
+use plain::refused::Refusal;
 use tokens::mode::Mode;
 use tokens::{buffer, print, token};
 
 // A start, with registers, entry and flags where the array has them, or the array's core.
-fn begin(mode: Mode, array: &CoreArray, memory: &[u8]) -> CoreStarted {
+fn begin(mode: Mode, array: &CoreArray, memory: &[u8]) -> Result<Core, Refusal> {
     match mode {
         Mode::Start => Core::start(registers_of(array), array[16], array[15], memory),
-        Mode::Take => CoreStarted {
-            answer: 0,
-            core: unpacked(array),
-        },
+        Mode::Take => Ok(unpacked(array)),
     }
 }
 
@@ -36,7 +34,10 @@ pub fn report() -> bool {
     let length = buffer::bytes(&whole, length);
     let memory = &mut whole[..length];
     buffer::read_words(memory, words);
-    let CoreStarted { answer, mut core } = begin(Mode::from(mode), &array, memory);
+    let (answer, mut core) = match begin(Mode::from(mode), &array, memory) {
+        Ok(core) => (0, core),
+        Err(refusal) => (u32::from(refusal), zeroed()),
+    };
     print::field(b"", answer, 8);
     for _ in 0..calls {
         core = call::next(core, &mut whole);

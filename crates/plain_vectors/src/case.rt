@@ -1,18 +1,17 @@
 // A case: `mode length lent entry flags stop count k`, then fifteen registers and k words of memory.
 use crate::state;
 use memory::Board;
-use plain::{Plain, PlainStarted};
+use plain::refused::Refusal;
+use plain::{Plain, zeroed};
+use stops::reason::number;
 use tokens::mode::Mode;
 use tokens::{buffer, print, token};
 
 // A record, started or taken as it is given.
-fn begin(mode: Mode, given: Plain, memory: &[u8]) -> PlainStarted {
+fn begin(mode: Mode, given: Plain, memory: &[u8]) -> Result<Plain, Refusal> {
     match mode {
         Mode::Start => Plain::start(given.registers, given.flags, given.a, memory),
-        Mode::Take => PlainStarted {
-            answer: 0,
-            plain: given,
-        },
+        Mode::Take => Ok(given),
     }
 }
 
@@ -34,10 +33,16 @@ pub fn report() -> bool {
     let length = buffer::bytes(&whole, length);
     let memory = &mut whole[..length];
     buffer::read_words(memory, words);
-    let started = begin(Mode::from(mode), given, memory);
+    let (answer, plain) = match begin(Mode::from(mode), given, memory) {
+        Ok(plain) => (0, plain),
+        Err(refusal) => (u32::from(refusal), zeroed()),
+    };
     let lent = buffer::bytes(&whole, lent);
-    let ran = started.plain.run(&mut whole[..lent], u64::from(count));
-    state::print(started.answer, &ran);
+    print::field(b"", answer, 8);
+    match plain.run(&mut whole[..lent], u64::from(count)) {
+        Ok(ran) => state::print(number(ran.stop), ran.used, ran.machine),
+        Err(refusal) => state::print(refusal.into(), 0, plain),
+    }
     buffer::print_words(&whole, length);
     print::bytes(b"\n");
     true

@@ -1,14 +1,11 @@
-// The state that a case leaves: `start answer done a flags stop length`, and the registers.
-use plain::PlainRan;
+// The state that a run leaves: `answer done a flags stop length`, and the registers.
+use plain::Plain;
 use tokens::print;
 
-pub fn print(start: u32, ran: &PlainRan) {
-    let plain = ran.plain;
-    let done = (ran.done % 0x1_0000_0000) as u32;
-    print::field(b"", start, 8);
+pub fn print(answer: u32, done: u64, plain: Plain) {
     print::words(&[
-        ran.answer,
-        done,
+        answer,
+        (done % 0x1_0000_0000) as u32,
         plain.a,
         plain.flags,
         plain.stop,
