@@ -23,12 +23,14 @@ fn lowest(word: u32, width: u32) -> u32
 }
 
 // The `width` bits of a word from bit `low` on.
+#[tactic(auto, unfolding(crate::specs::Bits::field))]
 pub fn field(word: u32, low: u32, width: u32) -> u32
     ensures { result ≡ field word low width }
 {
     lowest(moved(word, low), width)
 }
 
+#[tactic(auto, unfolding(crate::specs::Bits::bit))]
 pub fn bit(word: u32, k: u32) -> bool
     ensures { result ≡ bit word k }
 {

@@ -12,6 +12,7 @@ const CONDITIONS: [u16; 16] = [
 ];
 
 // The table passes its test.
+#[tactic(auto, unfolding(crate::specs::Table::right, crate::specs::Condition::passes, bits::specs::Bits::bit, bits::specs::Bits::field))]
 fn conditions() -> [u16; 16]
     ensures { T (every right 0 result) }
 {
@@ -19,6 +20,7 @@ fn conditions() -> [u16; 16]
 }
 
 // The bit of a condition's row that the flags name.
+#[tactic(auto, using(crate::proofs::Table::ruled), unfolding(bits::specs::Bits::bit, bits::specs::Bits::field))]
 fn looked_up(condition: u32, flags: u32) -> bool
     ensures { result ≡ passes condition flags }
 {
@@ -28,11 +30,9 @@ fn looked_up(condition: u32, flags: u32) -> bool
 }
 
 // Whether an instruction of this condition is done at these flags. Most are of the condition that always is, and need no look.
+#[tactic(auto, unfolding(crate::specs::Condition::passes))]
 pub fn passes(condition: u32, flags: u32) -> bool
     ensures { result ≡ passes condition flags }
 {
-    if condition == 14 {
-        return true;
-    }
-    looked_up(condition, flags)
+    condition == 14 || looked_up(condition, flags)
 }

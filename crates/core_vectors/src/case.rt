@@ -4,7 +4,7 @@ use arrays::registers_of;
 use core_arrays::CoreArray;
 use core_arrays::packing::pack;
 use core_arrays::unpacking::unpacked;
-use pipeline::{Core, zeroed};
+use pipeline::Core;
 use plain::refused::Refusal;
 use tokens::mode::Mode;
 use tokens::{buffer, print, token};
@@ -36,14 +36,14 @@ pub fn report() -> bool {
     buffer::read_words(memory, words);
     let (answer, mut core) = match begin(Mode::from(mode), &array, memory) {
         Ok(core) => (0, core),
-        Err(refusal) => (u32::from(refusal), zeroed()),
+        Err(refusal) => (u32::from(refusal), Core::default()),
     };
     print::field(b"", answer, 8);
     for _ in 0..calls {
         core = call::next(core, &mut whole);
     }
     print_core(core);
-    buffer::print_words(&whole, length);
+    buffer::print_words(&whole[..length]);
     print::bytes(b"\n");
     true
 }

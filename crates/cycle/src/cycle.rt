@@ -1,9 +1,10 @@
 // A cycle: the fetch, what the phase does, and the one place where the next core is built.
-ghost use Rattle.std.specs.Prelude.{◌≡◌, List, ℕ, ◌<◌, ◌^◌};
+ghost use Rattle.std.specs.Prelude.{◌≡◌, List, ℕ, ◌+◌, ◌<◌, ◌^◌};
+ghost use Rattle.bits.specs.Bits.{num};
 ghost use Rattle.memory.specs.Memory.{Memory, memory_of};
 ghost use Rattle.steps.specs.Steps.{own};
 ghost use Rattle.cycle.specs.Machine.{machine};
-ghost use Rattle.cycle.specs.Cycle.{fetch, fetches, pipe_after, phase_after, retired_by, counts_after, close, cycle};
+ghost use Rattle.cycle.specs.Cycle.{fetch, fetches, pipe_after, phase_after, retired_by, close, cycle};
 
 use crate::own::own;
 use crate::{Control, Counts, Pipe};
@@ -59,24 +60,10 @@ fn phase_after(after: After) -> Phase
 }
 
 // An instruction is retired in its last cycle; a start retires nothing.
-fn retired_by(after: After, retired: u64) -> u64
-    requires { retired < 2 ^ 63 }
-    ensures { result ≡ retired_by after retired }
+fn retires(after: After) -> bool
+    ensures { (k : ℕ) → retired_by after k ≡ k + num result }
 {
-    match after {
-        After::Done(Ended::Skipped | Ended::Executed) => retired + 1,
-        After::Done(Ended::Start) | After::More(_) | After::Jump(_) => retired,
-    }
-}
-
-fn counts_after(after: After, n: Counts) -> Counts
-    requires { (n.cycles < 2 ^ 63) × (n.retired < 2 ^ 63) }
-    ensures { result ≡ counts_after after n }
-{
-    Counts {
-        cycles: n.cycles + 1,
-        retired: retired_by(after, n.retired),
-    }
+    matches!(after, After::Done(Ended::Skipped | Ended::Executed))
 }
 
 // The next core: what the cycle did, the pipe after its fetch, and the counts.
@@ -84,12 +71,16 @@ fn close(s: Step, p: Pipe, c: Control) -> Control
     requires { (c.counts.cycles < 2 ^ 63) × (c.counts.retired < 2 ^ 63) }
     ensures { (g : List ℕ) (mem : Memory) → machine g result mem.bytes ≡ close (own g s mem) p c }
 {
+    let counts = Counts {
+        cycles: c.counts.cycles + 1,
+        retired: c.counts.retired + u64::from(retires(s.after)),
+    };
     Control {
         flags: s.flags,
         pipe: pipe_after(s.after, p),
         phase: phase_after(s.after),
         latches: s.latches,
-        counts: counts_after(s.after, c.counts),
+        counts,
         ..c
     }
 }

@@ -11,20 +11,14 @@ pub fn fresh(flags: u32, entry: u32, board: Board) -> Control
 {
     let pipe = Pipe {
         pc: entry,
-        ir1: None,
-        ir2: None,
-        ix: None,
-    };
-    let counts = Counts {
-        cycles: 0,
-        retired: 0,
+        ..Pipe::default()
     };
     Control {
         flags,
         pipe,
         phase: Phase::Refill1,
         latches: Latches::default(),
-        counts,
+        counts: Counts::default(),
         stop: 0,
         board,
     }

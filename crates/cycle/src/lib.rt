@@ -10,7 +10,7 @@ use memory::Board;
 use steps::{Latches, Phase};
 
 // The counter and the words fetched. IX holds the word of the instruction under way.
-#[derive(Clone, Copy)]
+#[derive(Clone, Copy, Default)]
 pub struct Pipe {
     pub pc: u32,
     pub ir1: Option<u32>,
@@ -18,7 +18,7 @@ pub struct Pipe {
     pub ix: Option<u32>,
 }
 
-#[derive(Clone, Copy)]
+#[derive(Clone, Copy, Default)]
 pub struct Counts {
     pub cycles: u64,
     pub retired: u64,

@@ -11,6 +11,7 @@ ghost use Rattle.cycle.specs.Cycle.{refilled, skips, own_of};
 use crate::Control;
 use bits::field;
 use condition::passes;
+use datapath::counter::R15;
 use steps::ending::still;
 use steps::first::first_step;
 use steps::later::later_step;
@@ -29,7 +30,11 @@ fn step1(c: Control, registers: &mut [u32; 15]) -> Step
     match c.pipe.ix {
         Some(word) => {
             if passes(field(word, 28, 4), c.flags) {
-                first_step(word, registers, c.flags, c.pipe.pc)
+                let r15 = R15 {
+                    flags: c.flags,
+                    pc: c.pipe.pc,
+                };
+                first_step(word, registers, r15)
             } else {
                 still(c.flags, skips(c.pipe.pc))
             }

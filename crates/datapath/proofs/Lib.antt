@@ -1,6 +1,5 @@
 pub mod Moved
 pub mod Flags
-pub mod Sums
 pub mod ValueAlone
 pub mod Counters
 pub mod Marked

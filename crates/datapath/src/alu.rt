@@ -151,7 +151,7 @@ pub fn makes_carry(op: u32) -> bool
     )
 }
 
-// TST to CMN store no result.
+// TST to CMN store no result. By number: by their names an instruction takes 2 to 4 % more.
 pub fn stores_result(op: u32) -> bool
     ensures { result ≡ stores_result op }
 {

@@ -29,10 +29,19 @@ pub fn counter(word: u32) -> u32
     word / 4 % 0x1000000 * 4
 }
 
-// Flags in bits 31..28 with a counter value's bits 25..2, and 0 in the other four.
-#[tactic(auto, unfolding(crate::specs::Counter::counter, crate::specs::Counter::r15_word))]
-pub fn r15_word(flags: u32, a: u32) -> u32
-    ensures { result ≡ r15_word flags a }
-{
-    flags % 16 * 0x10000000 + counter(a)
+// What R15 is read from: the flags, and the counter as it stands at the read.
+#[derive(Clone, Copy)]
+pub struct R15 {
+    pub flags: u32,
+    pub pc: u32,
+}
+
+impl R15 {
+    // Flags in bits 31..28 with the counter's bits 25..2, and 0 in the other four.
+    #[tactic(auto, unfolding(crate::specs::Counter::counter, crate::specs::Counter::r15_word))]
+    pub fn word(self) -> u32
+        ensures { result ≡ r15_word self.flags self.pc }
+    {
+        self.flags % 16 * 0x10000000 + counter(self.pc)
+    }
 }

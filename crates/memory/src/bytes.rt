@@ -10,6 +10,7 @@ pub fn word_base(place: u32) -> u32
 }
 
 // The whole word of a place; 0 outside.
+#[tactic(auto, using(crate::proofs::Chunks::chunk_at, crate::proofs::Chunks::word_of_chunk, crate::proofs::Chunks::no_chunk))]
 pub fn word_in(memory: &[u8], place: u32) -> u32
     ensures { result ≡ word_in memory.now place }
 {
@@ -20,6 +21,7 @@ pub fn word_in(memory: &[u8], place: u32) -> u32
     }
 }
 
+#[tactic(auto, using(crate::proofs::Chunks::word_over, crate::proofs::Chunks::not_written))]
 pub fn put_word(memory: &mut [u8], place: u32, value: u32)
     ensures { memory.new ≡ with_word memory.old place value }
 {
@@ -29,6 +31,7 @@ pub fn put_word(memory: &mut [u8], place: u32, value: u32)
     }
 }
 
+#[tactic(auto, unfolding(crate::specs::Bytes::byte_in))]
 pub fn byte_in(memory: &[u8], place: u32) -> u32
     ensures { result ≡ byte_in memory.now place }
 {
@@ -39,6 +42,7 @@ pub fn byte_in(memory: &[u8], place: u32) -> u32
 }
 
 // The low byte of a value, stored.
+#[tactic(auto, unfolding(crate::specs::Bytes::with_byte))]
 pub fn put_byte(memory: &mut [u8], place: u32, value: u32)
     ensures { memory.new ≡ with_byte memory.old place value }
 {

@@ -14,6 +14,7 @@ pub struct Board {
 }
 
 // Where an address lies in the lent bytes.
+#[tactic(auto, unfolding(crate::specs::Memory::place))]
 pub fn place(board: Board, address: u32) -> u32
     ensures { result ≡ place board address }
 {
@@ -21,6 +22,7 @@ pub fn place(board: Board, address: u32) -> u32
 }
 
 // The first address at which nothing answers.
+#[tactic(auto, unfolding(crate::specs::Memory::limit))]
 pub fn limit(board: Board) -> u32
     ensures { result ≡ limit board }
 {
@@ -52,6 +54,7 @@ pub fn write_byte(memory: &mut [u8], board: Board, address: u32, value: u32)
 }
 
 // The word that a fetch gives; none, a blank, outside.
+#[tactic(auto, unfolding(crate::specs::Memory::word_at))]
 pub fn fetch(memory: &[u8], board: Board, address: u32) -> Option<u32>
     ensures { result ≡ word_at (memory_of board memory.now) address }
 {

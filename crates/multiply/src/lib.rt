@@ -12,6 +12,7 @@ use registers::{put, register};
 use word::Multiply;
 
 // The paper's m of a value of Rs: a cycle for each two bits, by the value's length.
+#[tactic(auto, using(crate::proofs::InternalCycles::by_length))]
 pub fn m_of(rs: u32) -> u32
     ensures { result ≡ m_of rs }
 {
@@ -34,6 +35,7 @@ fn product(rm: u32, rs: u32, addend: u32) -> u32
     rm.wrapping_mul(rs).wrapping_add(addend)
 }
 
+#[tactic(auto, unfolding(crate::specs::Multiply::product_of))]
 fn product_of(i: Multiply, registers: &[u32; 15]) -> u32
     ensures { result ≡ product_of i registers.now }
 {
@@ -42,6 +44,7 @@ fn product_of(i: Multiply, registers: &[u32; 15]) -> u32
     product(rm, rs, addend_of(i, registers))
 }
 
+#[tactic(auto, unfolding(crate::specs::Multiply::flags_after))]
 fn flags_after(i: Multiply, flags: u32, value: u32) -> u32
     ensures { result ≡ flags_after i flags value }
 {
@@ -57,6 +60,7 @@ fn flags_after(i: Multiply, flags: u32, value: u32) -> u32
 }
 
 // Rd is written, and the flags after it are handed back; the counter goes on.
+#[tactic(auto, unfolding(crate::specs::Multiply::multiplied))]
 pub fn multiply(i: Multiply, registers: &mut [u32; 15], flags: u32) -> u32
     ensures { out registers.new result None ≡ multiplied i registers.old flags }
 {

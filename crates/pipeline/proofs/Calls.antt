@@ -2,14 +2,10 @@
 -- Assumes nothing.
 use Prim.Native.Nat.{ℕ}
 use mathlib.Core.Path.{◌≡◌, refl, sym, ap, ◌∙◌}
-use mathlib.Core.Bool.{Bool, true, false, false≢true}
+use mathlib.Core.Bool.{Bool, true, false}
 use lib.Dec.{eqb}
 use borrow.Author.Tests.{eqb-true}
-use Rattle.std.specs.Prelude.{Option, Some, None, is_some}
 use Rattle.bits.specs.Choice.{pick}
-use Rattle.stops.specs.declared.reason.Stop.{Stop}
-use Rattle.stops.specs.Numbers.{held_number}
-use Rattle.stops.proofs.Numbers.{some_number}
 use Rattle.cycle.specs.Machine.{Machine}
 use Rattle.refusals.specs.Numbers.{refusal, at_once}
 use Rattle.refusals.proofs.Refusals.{Granted, granted}
@@ -17,15 +13,6 @@ use Rattle.plain.specs.Running.{Ran, ran, unless}
 use Rattle.plain.proofs.Running.{ends_by, goes_by}
 use Rattle.runs.specs.Run.{run_from}
 use Rattle.pipeline.specs.Calls.{run}
-
--- a stop is held, or none is
-pub some-held : (held : Option Stop) {b : Bool} → b ≡ is_some held → b ≡ true → held_number held ≡ 0 → ⊥
-some-held (Some stop) e t = some_number stop
-some-held None e t = absurd (false≢true (sym e ∙ t))
-
-pub none-held : (held : Option Stop) {b : Bool} → b ≡ is_some held → b ≡ false → held_number held ≡ 0
-none-held (Some stop) e t = absurd (false≢true (sym t ∙ e))
-none-held None e t = refl
 
 -- one number for both
 either : (m : Machine) (r : Ran Machine) (x y : ℕ) → unless (pick (eqb x 0) y x) m r ≡ unless x m (unless y m r)

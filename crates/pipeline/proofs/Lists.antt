@@ -59,11 +59,11 @@ reach-cycles m (suc t) e = ap suc (reach-cycles m t e)
 holding-none : (m : Machine) → m.control.stop ≡ 0 → holding m 0 ≡ m
 holding-none m e = ap (holding m) (sym e)
 
-none-held : (ph : Phase) → held_away ph 0 ≡ false
-none-held Step1 = refl
-none-held Refill1 = refl
-none-held Refill2 = refl
-none-held (Later k) = refl
+zero-anywhere : (ph : Phase) → held_away ph 0 ≡ false
+zero-anywhere Step1 = refl
+zero-anywhere Refill1 = refl
+zero-anywhere Refill2 = refl
+zero-anywhere (Later k) = refl
 
 off-step1 : (ph : Phase) → is_step1 ph ≡ false → ph ≡ Step1 → ⊥
 off-step1 ph e h = false≢true (sym e ∙ ap is_step1 h)
@@ -210,7 +210,7 @@ module _ (p : plain.Machine) (m₀ : Machine) (r₀ : p.plain.a < counters) (s�
   unfolding boundary
   held-here {t} {q} h =
       ⊎_elim
-      (λ e. rw e (none-held (reach m₀ t).control.phase))
+      (λ e. rw e (zero-anywhere (reach m₀ t).control.phase))
       (λ e. ⊎_elim (λ v. rw v.2) (λ v. absurd (omega (arith, e.0, v.0))) (view h.pos))
       h.stop
 

@@ -24,20 +24,23 @@ pub struct Core {
 }
 
 // What a refused start hands back.
-pub fn zeroed() -> Core
-    ensures { result ≡ zeroed }
-{
-    let control = Control {
-        phase: Phase::Step1,
-        ..fresh(0, 0, Board { size: 0 })
-    };
-    Core {
-        registers: [0; 15],
-        control,
+impl Default for Core {
+    ghost is_default = { λ core. core ≡ zeroed };
+
+    fn default() -> Core {
+        let control = Control {
+            phase: Phase::Step1,
+            ..fresh(0, 0, Board { size: 0 })
+        };
+        Core {
+            registers: [0; 15],
+            control,
+        }
     }
 }
 
 impl Core {
+    #[tactic(auto, using(plain::proofs::Accepted::given, plain::proofs::Told::some_number, plain::proofs::Told::refused_start), unfolding(crate::specs::Calls::start))]
     pub fn start(
         registers: [u32; 15],
         flags: u32,
@@ -57,20 +60,21 @@ impl Core {
         ensures { ran_as (seen memory.new) self result ≡ run (length memory.old) budget (seen memory.old self) }
     {
         let c = self.control;
-        let held = at_once(memory.len(), budget, c, &self.registers)?;
-        if held.is_some() {
-            return Ok(Ran {
-                stop: held,
+        let went = match at_once(memory.len(), budget, c, &self.registers)? {
+            None => run_from(c, &mut self.registers, memory, budget),
+            Some(stop) => Ran {
+                stop: Some(stop),
                 used: 0,
-                machine: self,
-            });
-        }
-        let went = run_from(c, &mut self.registers, memory, budget);
-        self.control = went.machine;
+                machine: c,
+            },
+        };
         Ok(Ran {
             stop: went.stop,
             used: went.used,
-            machine: self,
+            machine: Core {
+                control: went.machine,
+                ..self
+            },
         })
     }
 
@@ -79,8 +83,7 @@ impl Core {
     pub fn settle(self, memory: &mut [u8]) -> Result<Ran<Core>, Refusal>
         ensures { ran_as (seen memory.new) self result ≡ settle (length memory.old) (seen memory.old self) }
     {
-        let c = self.control;
-        let left = cycles_left(c, &self.registers);
+        let left = cycles_left(self.control, &self.registers);
         self.run(memory, left)
     }
 

@@ -105,8 +105,8 @@ standing p lent n e = by_length (not (eqb lent p.board.size)) (sym e)
     by_length false f = by-record (bad p) refl f
 
 -- a number that a record can hold and that no stop has is 0
-pub none-held : (q : ℕ) → is_stop q ≡ true → false ≡ (leb no_word q && leb q fetched_word) → q ≡ 0
-none-held q h e = go (eqb q 0) refl h
+pub no-stop-zero : (q : ℕ) → is_stop q ≡ true → false ≡ (leb no_word q && leb q fetched_word) → q ≡ 0
+no-stop-zero q h e = go (eqb q 0) refl h
   where
     go : (b : Bool) → eqb q 0 ≡ b → (b || (leb no_word q && leb q fetched_word)) ≡ true → q ≡ 0
     go true t f = eqb-true q 0 t

@@ -1,6 +1,6 @@
 -- A refusal that a call hands on: nothing is changed.
 -- Assumes nothing.
-use Rattle.std.specs.Prelude.{ℕ, ◌≡◌, Result, Ok, Err}
+use Rattle.std.specs.Prelude.{◌≡◌, Result, Ok, Err}
 use Rattle.std.specs.Result.{IsErrAnd}
 use Rattle.std.proofs.Common.{ap, arith}
 use Rattle.plain.specs.declared.Ran.{Ran}

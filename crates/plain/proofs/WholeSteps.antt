@@ -5,9 +5,9 @@ use mathlib.Core.Path.{◌≡◌, refl, sym, ap, ◌∙◌}
 use mathlib.Core.List.{List}
 use native.Mathlib.Omega.{arith}
 use native.Mathlib.Nat.{zero-add, add-zero}
-use mathlib.Core.Bool.{Bool, true, false, ◌&&◌, and-eq-true_iff}
-use lib.Dec.{ltb, leb}
-use borrow.Author.Tests.{le-leb, lt-leb, ltb-true, ltb-false, leb-true, leb-false}
+use mathlib.Core.Bool.{Bool, true, false}
+use lib.Dec.{leb}
+use borrow.Author.Tests.{le-leb, lt-leb, leb-true}
 use Rattle.bits.specs.Choice.{pick}
 use Rattle.memory.specs.declared.Board.{Board}
 use Rattle.memory.specs.Memory.{memory_of, word_at}
@@ -160,19 +160,6 @@ module _ {count budget : ℕ} {w : Wholes} {done left : ℕ} {m : Machine} (l : 
   pub left-cycles : {r : Told} {h : List ℕ} {board : Board} {new : List ℕ}
       → result_of r h (memory_of board new) ≡ performs (word_at (state_of m).memory m.plain.a) (state_of m) → r.cycles ≤ longest
   left-cycles e = short-told m e
-
-  -- the loop's test, passed and failed
-  pub left-more : (ltb done count && leb longest left) ≡ true → (done < count) × (longest ≤ left)
-  left-more e =
-      let both = (and-eq-true_iff (ltb done count) (leb longest left)).0 e in
-      (ltb-true done count both.0, leb-true longest left both.1)
-
-  pub left_over : (ltb done count && leb longest left) ≡ false → wholes_of done (budget - left) 0 m ≡ w
-  left_over = go (ltb done count) refl
-    where
-      go : (t : Bool) → ltb done count ≡ t → (t && leb longest left) ≡ false → wholes_of done (budget - left) 0 m ≡ w
-      go true e f = left-short (leb-false longest left f)
-      go false e f = left-done (ltb-false done count e)
 
 -- ---- a run of the plain machine
 

@@ -1,5 +1,5 @@
 -- What the calls of either machine hand back, in the paper's numbers and records.
-use Rattle.std.specs.Prelude.{ℕ, Result, Ok, Err}
+use Rattle.std.specs.Prelude.{Result, Ok, Err}
 use Rattle.stops.specs.Numbers.{held_number}
 use Rattle.plain.specs.declared.Ran.{Ran}
 use Rattle.plain.specs.declared.refused.Refusal.{Refusal}

@@ -13,6 +13,7 @@ pub mod whole;
 use memory::Board;
 use numbers::{refusal, start_answer};
 use refused::Refusal;
+use registers::Context;
 use stops::reason::{Stop, number};
 use whole::{LONGEST, wholes};
 
@@ -44,20 +45,23 @@ pub struct Came {
 }
 
 // What a refused start hands back.
-pub fn zeroed() -> Plain
-    ensures { result ≡ zeroed }
-{
-    Plain {
-        registers: [0; 15],
-        a: 0,
-        flags: 0,
-        stop: 0,
-        board: Board { size: 0 },
+impl Default for Plain {
+    ghost is_default = { λ p. p ≡ zeroed };
+
+    fn default() -> Plain {
+        Plain {
+            registers: [0; 15],
+            a: 0,
+            flags: 0,
+            stop: 0,
+            board: Board { size: 0 },
+        }
     }
 }
 
 impl Plain {
     // Changes no memory.
+    #[tactic(auto, using(crate::proofs::Accepted::given, crate::proofs::Told::some_number, crate::proofs::Told::refused_start), unfolding(crate::specs::Run::start))]
     pub fn start(
         registers: [u32; 15],
         flags: u32,
@@ -90,16 +94,12 @@ impl Plain {
                 machine: self,
             });
         }
-        let board = self.board;
-        let came = wholes(
-            &mut self.registers,
-            memory,
-            self.flags,
-            self.a,
-            board,
-            count,
-            count * LONGEST,
-        );
+        let from = Context {
+            flags: self.flags,
+            a: self.a,
+            board: self.board,
+        };
+        let came = wholes(&mut self.registers, memory, from, count, count * LONGEST);
         Ok(Ran {
             stop: came.stop,
             used: came.done,

@@ -37,7 +37,8 @@ pub fn flags_are_bad(flags: u32) -> bool
     15 < flags
 }
 
-// What a start answers: 1, 2, 4, or 0 where it is accepted.
+// What a start refuses with: 1, 2, 4.
+#[tactic(auto, unfolding(crate::specs::Numbers::start_answer))]
 pub fn start_answer(length: usize, entry: u32, flags: u32) -> Result<(), Refusal>
     ensures { refusal_number result ≡ start_answer length entry flags }
 {
@@ -76,6 +77,7 @@ pub fn budget_is_bad(budget: u64) -> bool
 }
 
 // 11
+#[tactic(auto, unfolding(crate::specs::Numbers::bad))]
 fn is_bad(p: Plain) -> bool
     ensures { result ≡ bad p }
 {
@@ -85,7 +87,8 @@ fn is_bad(p: Plain) -> bool
         | !is_stop(p.stop)
 }
 
-// What a run refuses with: 12, 11, 3, or 0 where it is accepted.
+// What a run refuses with: 12, 11, 3.
+#[tactic(auto, unfolding(crate::specs::Numbers::refusal))]
 pub fn refusal(p: Plain, lent: usize, budget: u64) -> Result<(), Refusal>
     ensures { refusal_number result ≡ refusal p lent budget }
 {

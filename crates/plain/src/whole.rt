@@ -3,7 +3,6 @@ ghost use Rattle.std.specs.Prelude.{◌≡◌};
 ghost use Rattle.plain.specs.Whole.{wholes, going, came_to};
 
 use crate::Came;
-use memory::Board;
 use registers::Context;
 use semantics::perform::perform_at;
 
@@ -14,16 +13,14 @@ pub const LONGEST: u64 = 20;
 pub fn wholes(
     registers: &mut [u32; 15],
     memory: &mut [u8],
-    flags: u32,
-    a: u32,
-    board: Board,
+    from: Context,
     count: u64,
     budget: u64,
 ) -> Came
-    ensures { came_to result registers.new board memory.new ≡ wholes count budget (going registers.old flags a board memory.old) }
+    ensures { came_to result registers.new from.board memory.new ≡ wholes count budget (going registers.old from.flags from.a from.board memory.old) }
 {
-    let mut status = flags;
-    let mut here = a;
+    let mut status = from.flags;
+    let mut here = from.a;
     let mut left = budget;
     for done in 0..count {
         if left < LONGEST {
@@ -38,13 +35,13 @@ pub fn wholes(
         let c = Context {
             flags: status,
             a: here,
-            board,
+            ..from
         };
         match perform_at(registers, memory, c) {
             Ok(r) => {
                 status = r.flags;
                 here = r.next;
-                left -= r.cycles as u64;
+                left -= u64::from(r.cycles);
             }
             Err(stop) => {
                 return Came {

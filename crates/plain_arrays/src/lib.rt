@@ -10,6 +10,7 @@ use plain::Plain;
 
 pub type PlainArray = [u32; 19];
 
+#[tactic(auto, using(crate::proofs::Filled::filled))]
 pub fn pack(words: &mut PlainArray, p: Plain)
     ensures { words.new ≡ packed p }
 {

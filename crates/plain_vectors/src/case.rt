@@ -1,8 +1,8 @@
 // A case: `mode length lent entry flags stop count k`, then fifteen registers and k words of memory.
 use crate::state;
 use memory::Board;
+use plain::Plain;
 use plain::refused::Refusal;
-use plain::{Plain, zeroed};
 use stops::reason::number;
 use tokens::mode::Mode;
 use tokens::{buffer, print, token};
@@ -35,7 +35,7 @@ pub fn report() -> bool {
     buffer::read_words(memory, words);
     let (answer, plain) = match begin(Mode::from(mode), given, memory) {
         Ok(plain) => (0, plain),
-        Err(refusal) => (u32::from(refusal), zeroed()),
+        Err(refusal) => (u32::from(refusal), Plain::default()),
     };
     let lent = buffer::bytes(&whole, lent);
     print::field(b"", answer, 8);
@@ -43,7 +43,7 @@ pub fn report() -> bool {
         Ok(ran) => state::print(number(ran.stop), ran.used, ran.machine),
         Err(refusal) => state::print(refusal.into(), 0, plain),
     }
-    buffer::print_words(&whole, length);
+    buffer::print_words(&whole[..length]);
     print::bytes(b"\n");
     true
 }

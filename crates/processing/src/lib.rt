@@ -9,33 +9,34 @@ ghost use Rattle.processing.specs.Processing.{operand_of, computed_by, flags_aft
 use bits::field;
 use datapath::Shifted;
 use datapath::alu::{carry_of, made_flags, makes_carry, result, stores_result};
-use datapath::counter::{ahead, r15_word};
+use datapath::counter::R15;
 use datapath::shifter::{by_amount, by_register, constant};
-use registers::{Outcome, arrive, register};
+use registers::{Context, Outcome, arrive, register};
 use word::{Operand, Processing};
 
-// An operand's value, and what R15 reads as beside it.
+// An operand's value, and what R15 was read from beside it.
 #[derive(Clone, Copy)]
 pub struct Taken {
     pub value: u32,
-    pub pc: u32,
+    pub r15: R15,
 }
 
-// The operand and the shifter's carry, with what R15 reads as in `pc`.
+// The operand and the shifter's carry.
+#[tactic(auto, unfolding(crate::specs::Processing::operand_of))]
 #[inline(always)]
-fn operand(o: Operand, registers: &[u32; 15], flags: u32, pc: u32) -> Shifted
-    ensures { result ≡ operand_of o registers.now flags pc }
+fn operand(o: Operand, registers: &[u32; 15], r15: R15) -> Shifted
+    ensures { result ≡ operand_of o registers.now r15.flags r15.pc }
 {
-    let carry = carry_of(flags);
-    let r15 = r15_word(flags, pc);
+    let carry = carry_of(r15.flags);
+    let word = r15.word();
     match o {
         Operand::Constant { rotate, value } => constant(rotate, value, carry),
         Operand::ShiftByAmount { rm, shift, amount } => {
-            by_amount(shift, register(registers, rm, r15), amount, carry)
+            by_amount(shift, register(registers, rm, word), amount, carry)
         }
         Operand::ShiftByRegister { rm, shift, rs } => {
-            let v = register(registers, rm, r15);
-            by_register(shift, v, register(registers, rs, r15), carry)
+            let v = register(registers, rm, word);
+            by_register(shift, v, register(registers, rs, word), carry)
         }
     }
 }
@@ -47,62 +48,55 @@ pub fn shifts_by_register(o: Operand) -> bool
 }
 
 #[inline(always)]
-fn take(o: Operand, registers: &[u32; 15], flags: u32, pc: u32) -> Taken
-    ensures { (result.pc ≡ pc) × (result.value ≡ (operand_of o registers.now flags pc).value) }
+fn take(o: Operand, registers: &[u32; 15], r15: R15) -> Taken
+    ensures { (result.r15 ≡ r15) × (result.value ≡ (operand_of o registers.now r15.flags r15.pc).value) }
 {
     Taken {
-        value: operand(o, registers, flags, pc).value,
-        pc,
+        value: operand(o, registers, r15).value,
+        r15,
     }
 }
 
 // The operand of an instruction at `a`. It is matched once, for its value and for what R15 reads as.
 #[inline(always)]
-pub fn operand_at(i: Processing, registers: &[u32; 15], flags: u32, a: u32) -> Taken
-    ensures { (result.pc ≡ reads_at i a) × (result.value ≡ (operand_of i.operand registers.now flags (reads_at i a)).value) }
+pub fn operand_at(i: Processing, registers: &[u32; 15], c: Context) -> Taken
+    ensures { (result.r15.flags ≡ c.flags) × (result.r15.pc ≡ reads_at i c.a) × (result.value ≡ (operand_of i.operand registers.now c.flags (reads_at i c.a)).value) }
 {
-    let o = i.operand;
-    match o {
+    match i.operand {
         Operand::Constant { .. } | Operand::ShiftByAmount { .. } => {
-            take(o, registers, flags, ahead(a, 8))
+            take(i.operand, registers, c.r15(8))
         }
-        Operand::ShiftByRegister { .. } => take(o, registers, flags, ahead(a, 12)),
+        Operand::ShiftByRegister { .. } => take(i.operand, registers, c.r15(12)),
     }
 }
 
 // The shifter's carry, or any where the operation makes C itself.
 #[inline(always)]
-fn shifter_carry(i: Processing, registers: &[u32; 15], flags: u32, pc: u32) -> bool
-    ensures { (a b : ℕ) (c v : Bool) → operate i.operation a b result c v ≡ operate i.operation a b (operand_of i.operand registers.now flags pc).carry c v }
+fn shifter_carry(i: Processing, registers: &[u32; 15], r15: R15) -> bool
+    ensures { (a b : ℕ) (c v : Bool) → operate i.operation a b result c v ≡ operate i.operation a b (operand_of i.operand registers.now r15.flags r15.pc).carry c v }
 {
     if makes_carry(i.operation) {
         return false;
     }
-    operand(i.operand, registers, flags, pc).carry
+    operand(i.operand, registers, r15).carry
 }
 
 // With S the flags come from the result: for R15 from its bits 31..28.
+#[tactic(auto, unfolding(crate::specs::Processing::flags_after))]
 #[inline(always)]
-fn flags_after(
-    i: Processing,
-    registers: &[u32; 15],
-    flags: u32,
-    t: Taken,
-    rn: u32,
-    value: u32,
-) -> u32
-    requires { value ≡ (computed_by i registers.now flags t.pc rn t.value).value }
-    ensures { result ≡ flags_after i flags (computed_by i registers.now flags t.pc rn t.value) }
+fn flags_after(i: Processing, registers: &[u32; 15], t: Taken, rn: u32, value: u32) -> u32
+    requires { value ≡ (computed_by i registers.now t.r15.flags t.r15.pc rn t.value).value }
+    ensures { result ≡ flags_after i t.r15.flags (computed_by i registers.now t.r15.flags t.r15.pc rn t.value) }
 {
     if i.s {
         if i.rd < 15 {
-            let carry = shifter_carry(i, registers, flags, t.pc);
-            made_flags(i.operation, rn, t.value, carry, flags)
+            let carry = shifter_carry(i, registers, t.r15);
+            made_flags(i.operation, rn, t.value, carry, t.r15.flags)
         } else {
             field(value, 28, 4)
         }
     } else {
-        flags
+        t.r15.flags
     }
 }
 
@@ -120,20 +114,20 @@ fn store_result(i: Processing, registers: &mut [u32; 15], flags: u32, value: u32
 
 // An instruction whose operand is taken.
 #[inline(always)]
-pub fn process_taken(i: Processing, t: Taken, registers: &mut [u32; 15], flags: u32) -> Outcome
-    requires { t.value ≡ (operand_of i.operand registers.old flags t.pc).value }
-    ensures { out registers.new result.flags result.goes ≡ processed i registers.old flags t.pc }
+pub fn process_taken(i: Processing, t: Taken, registers: &mut [u32; 15]) -> Outcome
+    requires { t.value ≡ (operand_of i.operand registers.old t.r15.flags t.r15.pc).value }
+    ensures { out registers.new result.flags result.goes ≡ processed i registers.old t.r15.flags t.r15.pc }
 {
-    let rn = register(registers, i.rn, t.pc);
-    let value = result(i.operation, rn, t.value, carry_of(flags));
-    let f = flags_after(i, registers, flags, t, rn, value);
+    let rn = register(registers, i.rn, t.r15.pc);
+    let value = result(i.operation, rn, t.value, carry_of(t.r15.flags));
+    let f = flags_after(i, registers, t, rn, value);
     store_result(i, registers, f, value)
 }
 
 // An instruction in its last own step.
-pub fn process(i: Processing, registers: &mut [u32; 15], flags: u32, pc: u32) -> Outcome
-    ensures { out registers.new result.flags result.goes ≡ processed i registers.old flags pc }
+pub fn process(i: Processing, registers: &mut [u32; 15], r15: R15) -> Outcome
+    ensures { out registers.new result.flags result.goes ≡ processed i registers.old r15.flags r15.pc }
 {
-    let t = take(i.operand, registers, flags, pc);
-    process_taken(i, t, registers, flags)
+    let t = take(i.operand, registers, r15);
+    process_taken(i, t, registers)
 }

@@ -6,6 +6,7 @@ use crate::RecordArray;
 use crate::packing::record_words;
 use crate::unpacking::record_of;
 
+#[tactic(auto, using(crate::proofs::RecordLaws::compared))]
 pub fn stands_for_record(words: &RecordArray) -> bool
     ensures { result ≡ stands_for_record words.now }
 {

@@ -12,16 +12,12 @@ use Rattle.bits.specs.Choice.{pick}
 use Rattle.stops.specs.declared.reason.Stop.{Stop}
 use Rattle.stops.specs.declared.reason.NoStop.{NoStop}
 use Rattle.stops.specs.Numbers.{no_word, fetched_word, number_of, held_number}
-use Rattle.plain.proofs.Accepted.{none-held}
+use Rattle.plain.proofs.Accepted.{no-stop-zero}
 use Rattle.plain.specs.Numbers.{bad_length, bad_flags, bad_budget, is_counter, is_stop}
-use Rattle.steps.specs.declared.Phase.{Phase}
 use Rattle.steps.proofs.Both.{or-false}
 use Rattle.cycle.specs.declared.Control.{Control}
 use Rattle.cycle.specs.Machine.{Machine, most_cycles}
 use Rattle.refusals.specs.Numbers.{bad_phase, held_away, bad, refusal}
-
-pub phase-as : (m : Machine) {x y : Phase} {r : Bool} → x ≡ y → r ≡ bad_phase y m → r ≡ bad_phase x m
-phase-as m e q = q ∙ ap (λ (ph : Phase). bad_phase ph m) (sym e)
 
 -- what a record that is not bad passes
 pub record Good (m : Machine) : Type 0 where
@@ -81,4 +77,4 @@ granted lent budget m e =
 pub held-as : (q : ℕ) (r : Result Stop NoStop) {o : Option Stop} → o ≡ result_ok r → is_ok r ≡ (leb no_word q && leb q fetched_word)
     → MatchResult r (λ (stop : Stop). number_of stop ≡ q) (λ (n : NoStop). Unit {0}) → is_stop q ≡ true → held_number o ≡ q
 held-as q (Ok stop) e k g h = ap held_number e ∙ g
-held-as q (Err none) e k g h = ap held_number e ∙ sym (none-held q h k)
+held-as q (Err none) e k g h = ap held_number e ∙ sym (no-stop-zero q h k)

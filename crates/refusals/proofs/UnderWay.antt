@@ -2,6 +2,7 @@
 -- Assumes nothing.
 use Prim.Native.Nat.{ℕ, suc}
 use mathlib.Core.Path.{◌≡◌, refl, sym, ap, ◌∙◌}
+use mathlib.Core.Logic.{◌⊎◌, inl, inr}
 use mathlib.Core.Bool.{Bool, true, false, not, ◌||◌}
 use native.Mathlib.Omega.{arith}
 use lib.Dec.{ltb, eqb}
@@ -60,6 +61,11 @@ branch-within i k m = rw (le-ltb (suc k) 1 (omega arith)) refl
 pub other-within : (w k : ℕ) (m : Machine) → true ≡ bad_within (Instruction.Other w) k m
 unfolding bad_within
 other-within w k m = refl
+
+-- neither has a step 2
+pub no-step : (k : ℕ) (m : Machine) {i j : Instruction} → ((b : Branch) × i ≡ Instruction.Branch b) ⊎ ((w : ℕ) × i ≡ Instruction.Other w) → i ≡ j → true ≡ bad_within j k m
+no-step k m (inl (b, e)) r = read-within k m (sym e ∙ r) (branch-within b k m)
+no-step k m (inr (w, e)) r = read-within k m (sym e ∙ r) (other-within w k m)
 
 -- and a step's that of the instruction that is due
 pub step-within : {d : Due} {i : Instruction} (k : ℕ) (m : Machine) {r : Bool} → r ≡ bad_within i k m → d ≡ executes i → r ≡ bad_step d k m

@@ -19,17 +19,9 @@ use stops::reason::Stop;
 fn bad_step(k: u32, c: Control, registers: &[u32; 15]) -> bool
     ensures { (mem : List ℕ) → result ≡ bad_step (due c.pipe.ix c.flags) k (machine registers.now c mem) }
 {
-    let pipe = c.pipe;
-    let ix = pipe.ix;
-    match ix {
-        Some(word) => {
-            if passes(field(word, 28, 4), c.flags) {
-                bad_word(word, k, c, registers)
-            } else {
-                true
-            }
-        }
-        None => true,
+    match c.pipe.ix {
+        Some(word) if passes(field(word, 28, 4), c.flags) => bad_word(word, k, c, registers),
+        _ => true,
     }
 }
 
@@ -37,12 +29,9 @@ fn bad_step(k: u32, c: Control, registers: &[u32; 15]) -> bool
 fn bad_phase(c: Control, registers: &[u32; 15]) -> bool
     ensures { (mem : List ℕ) → result ≡ bad_phase c.phase (machine registers.now c mem) }
 {
-    let phase = c.phase;
-    match phase {
-        Phase::Step1 => false,
-        Phase::Refill1 => false,
-        Phase::Refill2 => false,
+    match c.phase {
         Phase::Later(k) => bad_step(k, c, registers),
+        _ => false,
     }
 }
 
@@ -50,12 +39,7 @@ fn bad_phase(c: Control, registers: &[u32; 15]) -> bool
 fn held_away(phase: Phase, stop: u32) -> bool
     ensures { result ≡ held_away phase stop }
 {
-    match phase {
-        Phase::Step1 => false,
-        Phase::Refill1 => stop != 0,
-        Phase::Refill2 => stop != 0,
-        Phase::Later(_) => stop != 0,
-    }
+    !matches!(phase, Phase::Step1) & (stop != 0)
 }
 
 // The largest count of cycles.
@@ -65,10 +49,9 @@ const MOST_CYCLES: u64 = 0x10000000000;
 fn bad_progress(c: Control, registers: &[u32; 15]) -> bool
     ensures { (mem : List ℕ) → result ≡ (ltb most_cycles c.counts.cycles || (ltb c.counts.cycles c.counts.retired || (not (is_stop c.stop) || (held_away c.phase c.stop || bad_phase c.phase (machine registers.now c mem))))) }
 {
-    let phase = c.phase;
     (MOST_CYCLES < c.counts.cycles)
         | ((c.counts.cycles < c.counts.retired)
-            | (!is_stop(c.stop) | (held_away(phase, c.stop) | bad_phase(c, registers))))
+            | (!is_stop(c.stop) | (held_away(c.phase, c.stop) | bad_phase(c, registers))))
 }
 
 // 11
@@ -79,7 +62,7 @@ fn bad(registers: &[u32; 15], c: Control) -> bool
         | (!is_counter(c.pipe.pc) | (flags_are_bad(c.flags) | bad_progress(c, registers)))
 }
 
-// What a run refuses with: 12, 11, 3, 13, or 0 where it is accepted.
+// What a run refuses with: 12, 11, 3, 13.
 fn refusal(lent: usize, budget: u64, c: Control, registers: &[u32; 15]) -> Result<(), Refusal>
     ensures { (mem : List ℕ) → refusal_number result ≡ refusal lent budget (machine registers.now c mem) }
 {

@@ -1,13 +1,12 @@
 // Whether a record may be in a step from 2 on: step k + 2 of a word that meets 22 or 23, lacks that step, or has a word still to be moved outside memory is bad.
-// By the kind of the word, as an engine goes: a record of any class would go through memory.
+// From the word, as an engine goes: a record that a caller lends would go through memory.
 ghost use Rattle.std.specs.Prelude.{◌≡◌, List, ℕ, suc, ◌-◌, ltb};
 ghost use Rattle.word.specs.declared.Instruction.{Instruction};
 ghost use Rattle.word.specs.Reader.{read_of};
-ghost use Rattle.cycle.specs.Machine.{machine};
+ghost use Rattle.cycle.specs.Machine.{Machine, machine};
 ghost use Rattle.refusals.specs.Numbers.{bad_within};
 
 use cycle::Control;
-use datapath::counter::behind;
 use semantics::own_steps::{block_steps, multiply_steps, processing_steps, single_steps};
 use stops::rules::{block_rule, multiply_rule, processing_rule, single_rule};
 use stops::span::outside;
@@ -18,38 +17,37 @@ use word::{Block, Instruction, Multiply, Processing, Single, reader};
 fn has_step(steps: u32, k: u32) -> bool
     ensures { result ≡ ltb (suc k) steps }
 {
-    k as u64 + 1 < steps as u64
+    u64::from(k) + 1 < u64::from(steps)
 }
 
 // How many of n are left after k.
 fn left(n: u32, k: u32) -> u32
     ensures { result ≡ n - k }
 {
-    if k < n { n - k } else { 0 }
+    n.saturating_sub(k)
 }
 
-fn bad_processing(i: Processing, k: u32, c: Control, registers: &[u32; 15]) -> bool
-    ensures { (mem : List ℕ) → result ≡ bad_within (Instruction.Processing i) k (machine registers.now c mem) }
+fn bad_processing(i: Processing, k: u32) -> bool
+    ensures { (m : Machine) → result ≡ bad_within (Instruction.Processing i) k m }
 {
     let steps = processing_steps(i);
-    processing_rule(i, registers, c.flags, behind(c.pipe.pc, 12)).is_err() | !has_step(steps, k)
+    processing_rule(i).is_err() | !has_step(steps, k)
 }
 
 fn bad_single(i: Single, k: u32, c: Control) -> bool
     ensures { (g mem : List ℕ) → result ≡ bad_within (Instruction.Single i) k (machine g c mem) }
 {
-    let board = c.board;
     let steps = single_steps(i);
-    single_rule(i).is_err() | (!has_step(steps, k) | outside(c.latches.address, left(1, k), board))
+    single_rule(i).is_err()
+        | (!has_step(steps, k) | outside(c.latches.address, left(1, k), c.board))
 }
 
 fn bad_block(i: Block, k: u32, c: Control) -> bool
     ensures { (g mem : List ℕ) → result ≡ bad_within (Instruction.Block i) k (machine g c mem) }
 {
-    let board = c.board;
     let steps = block_steps(i);
     let n = count(i.list);
-    block_rule(i).is_err() | (!has_step(steps, k) | outside(c.latches.address, left(n, k), board))
+    block_rule(i).is_err() | (!has_step(steps, k) | outside(c.latches.address, left(n, k), c.board))
 }
 
 // The steps go by the value that Rs holds.
@@ -65,11 +63,10 @@ pub fn bad_word(word: u32, k: u32, c: Control, registers: &[u32; 15]) -> bool
     ensures { (mem : List ℕ) → result ≡ bad_within (read_of word) k (machine registers.now c mem) }
 {
     match reader::read(word) {
-        Instruction::Processing(i) => bad_processing(i, k, c, registers),
+        Instruction::Processing(i) => bad_processing(i, k),
         Instruction::Single(i) => bad_single(i, k, c),
         Instruction::Block(i) => bad_block(i, k, c),
-        Instruction::Branch(_) => true,
         Instruction::Multiply(i) => bad_multiply(i, k, c, registers),
-        Instruction::Other(_) => true,
+        Instruction::Branch(_) | Instruction::Other(_) => true,
     }
 }

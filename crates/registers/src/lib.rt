@@ -2,6 +2,7 @@
 #![tactic(auto)]
 
 ghost use Rattle.std.specs.Prelude.{◌≡◌};
+ghost use Rattle.datapath.specs.Counter.{ahead};
 ghost use Rattle.registers.specs.Registers.{register, put, out, arrives};
 
 // What an instruction finds besides the registers and the lent bytes: the flags, its own address, and the board.
@@ -12,6 +13,18 @@ pub struct Context {
     pub board: Board,
 }
 
+impl Context {
+    // What R15 is read from, n bytes on.
+    pub fn r15(self, n: u32) -> R15
+        ensures { (result.flags ≡ self.flags) × (result.pc ≡ ahead self.a n) }
+    {
+        R15 {
+            flags: self.flags,
+            pc: ahead(self.a, n),
+        }
+    }
+}
+
 // What an instruction leaves beside the registers. The counter goes to bits 25..2 of a stored word, or on where none is stored.
 #[derive(Clone, Copy)]
 pub struct Outcome {
@@ -19,14 +32,17 @@ pub struct Outcome {
     pub goes: Option<u32>,
 }
 
+use datapath::counter::{R15, ahead};
 use memory::Board;
 
+#[tactic(auto, unfolding(crate::specs::Registers::register))]
 pub fn register(registers: &[u32; 15], n: u32, r15: u32) -> u32
     ensures { result ≡ register registers.now n r15 }
 {
     if n < 15 { registers[n as usize] } else { r15 }
 }
 
+#[tactic(auto, unfolding(crate::specs::Registers::put))]
 pub fn put(registers: &mut [u32; 15], n: u32, value: u32)
     ensures { registers.new ≡ put registers.old n value }
 {
@@ -36,6 +52,7 @@ pub fn put(registers: &mut [u32; 15], n: u32, value: u32)
 }
 
 // A result or a loaded word on its way to register n, which for 15 is the counter.
+#[tactic(auto, unfolding(crate::specs::Registers::arrives))]
 pub fn arrive(registers: &mut [u32; 15], flags: u32, n: u32, value: u32) -> Outcome
     ensures { out registers.new result.flags result.goes ≡ arrives registers.old flags n value }
 {

@@ -22,7 +22,7 @@ const STDOUT: i32 = 1;
 fn answer_line(text: &mut Text, answer: u32)
     ensures { text.new ≡ put text.old (answer_line answer) }
 {
-    decimal_line(text, b"answer=", answer as u64);
+    decimal_line(text, b"answer=", u64::from(answer));
 }
 
 fn core_lines(text: &mut Text, core: &Core)

@@ -39,7 +39,7 @@ use Rattle.stops.specs.Rules.{first_broken, is15, rule_broken}
 use Rattle.stops.specs.Moves.{moves_from, moves_of, addresses, moved_by, stored_by, span}
 use Rattle.stops.specs.Stops.{Due, no_word_there, skipped, executes, due, outside, hits, moved_stop, stop_of, stop_for}
 use Rattle.stops.proofs.StopOrder.{from-span}
-use Rattle.stops.proofs.Spans.{last-decides}
+use Rattle.stops.proofs.Spans.{last_decides}
 use Rattle.datapath.proofs.Counters.{behind-ahead}
 use Rattle.steps.specs.declared.Phase.TheVariants.{Step1, Later}
 use Rattle.steps.specs.declared.Latches.{Latches}
@@ -381,7 +381,7 @@ names-some i s e = go (block.named i.list) refl (is15 i.rn) i.s e
 pub no_wrap : (m b : ℕ) (board : Board) → outside (span m b) board ≡ false → m ≢ 0 → board.size ≤ most_bytes → b + 4 * m ≤ 2 ^ 32
 unfolding limit
 no_wrap m b board o z l =
-    let h : b + 4 * (m - 1) < board.size = leb-false board.size (b + 4 * (m - 1)) (last-decides m b board z ∙ o) in
+    let h : b + 4 * (m - 1) < board.size = leb-false board.size (b + 4 * (m - 1)) (last_decides m b board z ∙ o) in
     omega arith
 
 -- the two words fetched ahead are not stored to

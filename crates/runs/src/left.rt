@@ -14,26 +14,20 @@ fn rest(ix: Option<u32>, k: u32, registers: &[u32; 15]) -> u64
     match ix {
         Some(word) => {
             let duration = duration_of(word, registers);
-            if k < duration {
-                (duration - k - 1) as u64
-            } else {
-                0
-            }
+            u64::from(duration.saturating_sub(k).saturating_sub(1))
         }
         None => 0,
     }
 }
 
+#[tactic(auto, using(crate::proofs::CyclesLeft::left_as))]
 pub fn cycles_left(c: Control, registers: &[u32; 15]) -> u64
     ensures { (mem : List ℕ) → result ≡ cycles_left (machine registers.now c mem) }
 {
-    let phase = c.phase;
-    let pipe = c.pipe;
-    let ix = pipe.ix;
-    match phase {
+    match c.phase {
         Phase::Step1 => 0,
         Phase::Refill1 => 2,
         Phase::Refill2 => 1,
-        Phase::Later(k) => rest(ix, k, registers),
+        Phase::Later(k) => rest(c.pipe.ix, k, registers),
     }
 }

@@ -10,33 +10,29 @@ use crate::Advanced;
 use cycle::stop::is_step1;
 use cycle::{Control, Counts, Pipe};
 use datapath::counter::{COUNTERS, ahead, behind};
-use memory::{Board, fetch};
+use memory::fetch;
 use plain::numbers::MOST_BYTES;
 use plain::whole::{LONGEST, wholes};
+use registers::Context;
 use steps::{Latches, Phase};
 
 // About to do step 1: no stop held, nothing latched, and the pipe holds what fetches would give now.
+#[tactic(auto, unfolding(crate::specs::Whole::stands))]
 fn stands(c: Control, memory: &[u8]) -> bool
     ensures { result ≡ stands c memory.now }
 {
-    let phase = c.phase;
-    if !is_step1(phase) {
+    if !is_step1(c.phase) {
         return false;
     }
-    let pipe = c.pipe;
-    let ir1 = pipe.ir1;
-    let ir2 = pipe.ir2;
-    let ix = pipe.ix;
-    let a = behind(pipe.pc, 8);
+    let a = behind(c.pipe.pc, 8);
     let clear = (c.stop == 0)
         & (c.latches.address == 0)
         & (c.latches.datum == 0)
         & (c.latches.base == 0);
-    let sized = (pipe.pc < COUNTERS) & (c.board.size <= MOST_BYTES as u32);
-    let board = c.board;
-    let word = fetch(memory, board, a);
-    let ahead1 = fetch(memory, board, ahead(a, 4));
-    let filled = (ix == word) & (ir2 == word) & (ir1 == ahead1);
+    let sized = (c.pipe.pc < COUNTERS) & (c.board.size <= MOST_BYTES as u32);
+    let word = fetch(memory, c.board, a);
+    let ahead1 = fetch(memory, c.board, ahead(a, 4));
+    let filled = (c.pipe.ix == word) & (c.pipe.ir2 == word) & (c.pipe.ir1 == ahead1);
     clear & sized & filled
 }
 
@@ -44,37 +40,30 @@ fn stands(c: Control, memory: &[u8]) -> bool
 fn may_skip(c: Control, memory: &[u8], budget: u64) -> bool
     ensures { result ≡ (leb longest budget && stands c memory.now) }
 {
-    if budget < LONGEST {
-        return false;
-    }
-    stands(c, memory)
+    LONGEST <= budget && stands(c, memory)
 }
 
 // The boundary core.
-fn control_at(flags: u32, a: u32, counts: Counts, board: Board, memory: &[u8]) -> Control
-    ensures { (g : List ℕ) (stop : ℕ) → machine g result memory.now ≡ boundary (plain.machine (plain.plain g a flags stop board) memory.now) counts.retired counts.cycles }
+#[tactic(auto, unfolding(crate::specs::Boundary::boundary))]
+fn control_at(c: Context, counts: Counts, memory: &[u8]) -> Control
+    ensures { (g : List ℕ) (stop : ℕ) → machine g result memory.now ≡ boundary (plain.machine (plain.plain g c.a c.flags stop c.board) memory.now) counts.retired counts.cycles }
 {
-    let word = fetch(memory, board, a);
-    let next = fetch(memory, board, ahead(a, 4));
+    let word = fetch(memory, c.board, c.a);
+    let next = fetch(memory, c.board, ahead(c.a, 4));
     let pipe = Pipe {
-        pc: ahead(a, 8),
+        pc: ahead(c.a, 8),
         ir1: next,
         ir2: word,
         ix: word,
     };
-    let latches = Latches {
-        address: 0,
-        datum: 0,
-        base: 0,
-    };
     Control {
-        flags,
+        flags: c.flags,
         pipe,
         phase: Phase::Step1,
-        latches,
+        latches: Latches::default(),
         counts,
         stop: 0,
-        board,
+        board: c.board,
     }
 }
 
@@ -84,14 +73,22 @@ pub fn skip(c: Control, registers: &mut [u32; 15], memory: &mut [u8], budget: u6
     ensures { stretch result.used (machine registers.new result.control memory.new) ≡ skipped budget (machine registers.old c memory.old) }
 {
     if may_skip(c, memory, budget) {
-        let board = c.board;
-        let a = behind(c.pipe.pc, 8);
-        let came = wholes(registers, memory, c.flags, a, board, budget, budget);
+        let from = Context {
+            flags: c.flags,
+            a: behind(c.pipe.pc, 8),
+            board: c.board,
+        };
+        let came = wholes(registers, memory, from, budget, budget);
         let counts = Counts {
             cycles: c.counts.cycles + came.used,
             retired: c.counts.retired + came.done,
         };
-        let control = control_at(came.flags, came.a, counts, board, memory);
+        let to = Context {
+            flags: came.flags,
+            a: came.a,
+            ..from
+        };
+        let control = control_at(to, counts, memory);
         return Advanced {
             control,
             used: came.used,

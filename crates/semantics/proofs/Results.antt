@@ -12,7 +12,7 @@ use Rattle.word.specs.declared.Multiply.{Multiply}
 use Rattle.word.specs.declared.Instruction.{Instruction}
 use Rattle.word.specs.Reader.{read_of}
 use Rattle.condition.specs.Condition.{passes}
-use Rattle.datapath.specs.Counter.{ahead, counter}
+use Rattle.datapath.specs.Counter.{ahead}
 use Rattle.memory.specs.Memory.{Memory}
 use Rattle.registers.specs.declared.Outcome.{Outcome}
 use Rattle.registers.specs.Registers.{Out, out}
@@ -40,11 +40,6 @@ pub went_on : {p : Told} {t : Option ℕ} {f : ℕ} (a steps : ℕ) → t ≡ No
 went_on {f = f} a steps e q =
     q ∙ ap (performed 0 f (ahead a 4)) (and_none steps) ∙ ap (λ (x : Option ℕ). performed 0 f (next_address a x) (steps + refills x)) (sym e)
 
-pub went_to : {t : Option ℕ} {f w next : ℕ} (a steps : ℕ) → t ≡ Some w → next ≡ counter w
-    → performed 0 f next (steps + 2) ≡ performed 0 f (next_address a t) (steps + refills t)
-went_to {f = f} a steps e q =
-    ap (λ (n : ℕ). performed 0 f n (steps + 2)) q ∙ ap (λ (x : Option ℕ). performed 0 f (next_address a x) (steps + refills x)) (sym e)
-
 -- what is left, put together again
 pub whole : {o : Out} {h : List ℕ} {t : Outcome} → Left o h t → out h t.flags t.goes ≡ o
 whole {o} l = rw (l.registers, l.flags, l.goes)
@@ -64,21 +59,11 @@ module _ (s : State) (steps : ℕ) {p : Told} {h : List ℕ} where
   unfolding load_effect
   load_done i b d v q e = finished s steps {o = (load_effect i s).out} q (e ∙ rw (v, d, b))
 
-  pub store-done : (i : Single) {new : Memory} → h ≡ (store_effect i s).out.registers → new ≡ (store_effect i s).memory
-      → p ≡ performed 0 s.status (ahead s.a 4) steps → result_of p h new ≡ done s steps (store_effect i s)
-  unfolding store_effect
-  store-done i w n q = rw (went_on {t = None} s.a steps refl q, w, n)
-
   pub block-load-done : (i : Block) {base lowest : ℕ} {f₂ : ℕ} {t : Option ℕ} → lowest ≡ block.lowest_address i s.registers → base ≡ block.changed_base i s.registers
       → p ≡ performed 0 f₂ (next_address s.a t) (steps + refills t) → out h f₂ t ≡ base_then_registers i s.registers s.status base lowest s.memory
       → result_of p h s.memory ≡ done s steps (block_load_effect i s)
   unfolding block_load_effect
   block-load-done i l b q e = finished s steps {o = (block_load_effect i s).out} q (e ∙ rw (l, b))
-
-  pub block-store-done : (i : Block) {new : Memory} → h ≡ (block_store_effect i s).out.registers → new ≡ (block_store_effect i s).memory
-      → p ≡ performed 0 s.status (ahead s.a 4) steps → result_of p h new ≡ done s steps (block_store_effect i s)
-  unfolding block_store_effect
-  block-store-done i w e q = rw (went_on {t = None} s.a steps refl q, w, e)
 
 -- ---- a passing condition: stopped, or done
 

@@ -2,9 +2,8 @@
 -- Assumes nothing.
 use Rattle.std.specs.Prelude.{ℕ, ◌≡◌, Result, Ok, Err}
 use Rattle.std.specs.Result.{IsErrAnd}
-use Rattle.std.proofs.Common.{ap, arith}
+use Rattle.std.proofs.Common.{ap}
 use Rattle.stops.specs.declared.reason.Stop.{Stop}
-use Rattle.stops.specs.declared.reason.Stop.TheVariants.{NoWord, OtherWord, BrokenRule, OutsideMemory, FetchedWord}
 use Rattle.stops.specs.Numbers.{number_of}
 use Rattle.semantics.specs.declared.Performed.{Performed}
 use Rattle.semantics.specs.Perform.{stopped_at}

@@ -1,5 +1,5 @@
 // The duration of a word's instruction, where it is executed: its own steps, and the two refills where it stores the counter.
-// By the kind of the word, as an engine goes: a record of any class would go through memory.
+// From the word, as an engine goes: a record that a caller lends would go through memory.
 ghost use Rattle.std.specs.Prelude.{◌≡◌, ℕ, ◌≤◌, List};
 ghost use Rattle.word.specs.declared.Instruction.{Instruction};
 ghost use Rattle.word.specs.Reader.{read_of};

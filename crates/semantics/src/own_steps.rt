@@ -11,8 +11,7 @@ use word::{Block, Multiply, Processing, Single};
 pub fn processing_steps(i: Processing) -> u32
     ensures { result ≡ processing_steps i }
 {
-    let o = i.operand;
-    if shifts_by_register(o) { 2 } else { 1 }
+    if shifts_by_register(i.operand) { 2 } else { 1 }
 }
 
 pub fn single_steps(i: Single) -> u32

@@ -22,7 +22,7 @@ use crate::own_steps::{
 use bits::field;
 use condition::passes;
 use datapath::counter::{ahead, counter};
-use memory::{Board, fetch};
+use memory::fetch;
 use multiply::multiply;
 use processing::{operand_at, process_taken};
 use registers::{Context, Outcome, arrive};
@@ -47,8 +47,7 @@ fn done(a: u32, steps: u32, t: Outcome) -> Performed
     requires { steps ≤ 18 }
     ensures { done_by result ≡ performed 0 t.flags (next_address a t.goes) (steps + refills t.goes) }
 {
-    let goes = t.goes;
-    match goes {
+    match t.goes {
         None => went_on(a, steps, t.flags),
         Some(word) => Performed {
             flags: t.flags,
@@ -66,10 +65,10 @@ fn perform_processing(
 ) -> Result<Performed, Stop>
     ensures { (mem : Memory) → result_of (told c.flags c.a result) registers.new mem ≡ executed (Instruction.Processing i) (state registers.old c.flags c.a mem) }
 {
-    let t = operand_at(i, registers, c.flags, c.a);
-    processing_stop(i, registers, c)?;
+    let t = operand_at(i, registers, c);
+    processing_stop(i)?;
     let steps = processing_steps(i);
-    Ok(done(c.a, steps, process_taken(i, t, registers, c.flags)))
+    Ok(done(c.a, steps, process_taken(i, t, registers)))
 }
 
 // `arrive`, with each part of what it leaves told by itself.
@@ -106,6 +105,7 @@ fn load(i: Single, at: Reach, registers: &mut [u32; 15], memory: &[u8], c: Conte
     )
 }
 
+#[tactic(auto, unfolding(crate::specs::Effect::store_effect))]
 fn store(
     i: Single,
     at: Reach,
@@ -116,7 +116,7 @@ fn store(
     requires { (at.base ≡ changed_base i registers.old c.flags (ahead c.a 8)) × (at.address ≡ address_of i registers.old c.flags (ahead c.a 8)) }
     ensures { result_of (done_by result) registers.new (memory_of c.board memory.new) ≡ done (state_in c registers.old memory.old) (single_steps i) (store_effect i (state_in c registers.old memory.old)) }
 {
-    let value = single::stored_value(registers, i.rd, c.flags, ahead(c.a, 12));
+    let value = single::stored_value(registers, i.rd, c.r15(12));
     single::store(i, memory, c.board, at.address, value);
     single::write_base(i, registers, at.base);
     went_on(c.a, single_steps(i), c.flags)
@@ -130,8 +130,8 @@ fn perform_single(
 ) -> Result<Performed, Stop>
     ensures { result_of (told c.flags c.a result) registers.new (memory_of c.board memory.new) ≡ executed (Instruction.Single i) (state_in c registers.old memory.old) }
 {
-    let at = single::reach(i, registers, c.flags, ahead(c.a, 8));
-    single_stop_at(i, at.address, c.a, c.board)?;
+    let at = single::reach(i, registers, c.r15(8));
+    single_stop_at(i, at.address, c)?;
     Ok(if i.l {
         load(i, at, registers, memory, c)
     } else {
@@ -140,33 +140,25 @@ fn perform_single(
 }
 
 // `block::load`, with each part of what it leaves told by itself.
-fn loaded(
-    list: u32,
-    registers: &mut [u32; 15],
-    flags: u32,
-    lowest: u32,
-    memory: &[u8],
-    board: Board,
-) -> Outcome
-    ensures { Left (loads (named list) registers.old flags lowest (memory_of board memory.now)) registers.new result }
+fn loaded(list: u32, registers: &mut [u32; 15], lowest: u32, memory: &[u8], c: Context) -> Outcome
+    ensures { Left (loads (named list) registers.old c.flags lowest (memory_of c.board memory.now)) registers.new result }
 {
-    block::load(list, registers, flags, lowest, memory, board)
+    block::load(list, registers, c.flags, lowest, memory, c.board)
 }
 
 // The base, then the registers: a loaded base wins.
 fn base_then_registers(
     i: Block,
     registers: &mut [u32; 15],
-    memory: &[u8],
-    flags: u32,
     changed: u32,
     lowest: u32,
-    board: Board,
+    memory: &[u8],
+    c: Context,
 ) -> Outcome
-    ensures { Left (base_then_registers i registers.old flags changed lowest (memory_of board memory.now)) registers.new result }
+    ensures { Left (base_then_registers i registers.old c.flags changed lowest (memory_of c.board memory.now)) registers.new result }
 {
     block::write_base(i, registers, changed);
-    loaded(i.list, registers, flags, lowest, memory, board)
+    loaded(i.list, registers, lowest, memory, c)
 }
 
 fn load_block(i: Block, registers: &mut [u32; 15], memory: &[u8], c: Context) -> Performed
@@ -178,14 +170,15 @@ fn load_block(i: Block, registers: &mut [u32; 15], memory: &[u8], c: Context) ->
     done(
         c.a,
         steps,
-        base_then_registers(i, registers, memory, c.flags, base, lowest, c.board),
+        base_then_registers(i, registers, base, lowest, memory, c),
     )
 }
 
+#[tactic(auto, unfolding(crate::specs::Effect::block_store_effect))]
 fn store_block(i: Block, registers: &mut [u32; 15], memory: &mut [u8], c: Context) -> Performed
     ensures { result_of (done_by result) registers.new (memory_of c.board memory.new) ≡ done (state_in c registers.old memory.old) (block_steps i) (block_store_effect i (state_in c registers.old memory.old)) }
 {
-    block::store_all(i, registers, c.flags, ahead(c.a, 12), memory, c.board);
+    block::store_all(i, registers, c.r15(12), memory, c.board);
     went_on(c.a, block_steps(i), c.flags)
 }
 
@@ -239,6 +232,7 @@ fn execute(
     }
 }
 
+#[tactic(auto, using(crate::proofs::Results::passing, crate::proofs::Results::failing))]
 fn perform(
     word: u32,
     registers: &mut [u32; 15],

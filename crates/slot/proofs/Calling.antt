@@ -1,11 +1,11 @@
 -- What a call leaves, from what the functions that it calls ensure. Assumes nothing.
 use Prim.Native.Nat.{ℕ}
-use mathlib.Core.Path.{◌≡◌, sym, ap, ◌∙◌}
+use mathlib.Core.Path.{◌≡◌, refl, sym, ap, ◌∙◌}
 use mathlib.Core.Bool.{true, false}
 use mathlib.Core.List.{List}
 use lib.ListN.{length}
 use borrow.Author.Tests.{ne_eqb}
-use Rattle.std.specs.Prelude.{Result}
+use Rattle.std.specs.Prelude.{Result, Ok, Err}
 use Rattle.writer.specs.declared.NoWord.{NoWord}
 use Rattle.writer.specs.Writer.{Answer, answer_of, write_of}
 use Rattle.word.specs.declared.Instruction.{Instruction}
@@ -15,23 +15,17 @@ use Rattle.pipeline.specs.Calls as pipeline
 use Rattle.plain.specs.declared.Plain.{Plain}
 use Rattle.plain.specs.Machine as unpiped
 use Rattle.plain.specs.Running.{Ran, ran}
-use Rattle.plain.specs.Running as running
+use Rattle.plain.specs.declared.Ran as plain_record
+use Rattle.plain.specs.declared.refused.Refusal.{Refusal}
+use Rattle.plain.specs.Told.{ran_as}
 use Rattle.plain.specs.Run as plain
 use Rattle.core_arrays.specs.CoreArray as core_array
 use Rattle.plain_arrays.specs.PlainArray as plain_array
 use Rattle.record_arrays.specs.RecordArray.{record_of, stands_for_record}
-use Rattle.slot.specs.Calls.{Called, started, called, is_refusal, refused, unless_refused, core_begun, core_start, core_called, core_machine, refusal_of, core_run, plain_begun, plain_start, plain_called, plain_run, answer, word_of}
+use Rattle.slot.specs.Calls.{Called, called, is_refusal, refused, unless_refused, core_called, core_machine, refusal_of, core_run, plain_called, plain_run, answer, word_of}
+use Rattle.slot.specs.Kept.{ended_in}
+use Rattle.slot.proofs.Refused.{of_refusal, of_stop}
 use Rattle.slot.proofs.Refusing.{core-kept, plain-kept}
-
-pub core-started : (g : List ℕ) (f e : ℕ) (mem : List ℕ) {b : running.Started Core} {p : List ℕ}
-    → b ≡ pipeline.start g f e mem → p ≡ core_array.packed b.machine → started b.answer p ≡ core_start g f e mem
-unfolding core_start
-core-started g f e mem {b} q h = ap (λ (p : List ℕ). started b.answer p) h ∙ ap core_begun q
-
-pub plain-started : (g : List ℕ) (f e : ℕ) (mem : List ℕ) {b : running.Started Plain} {p : List ℕ}
-    → b ≡ plain.start g f e mem → p ≡ plain_array.packed b.machine → started b.answer p ≡ plain_start g f e mem
-unfolding plain_start
-plain-started g f e mem {b} q h = ap (λ (p : List ℕ). started b.answer p) h ∙ ap plain_begun q
 
 -- where a run is refused, and where it is not
 module _ (words mem : List ℕ) (r : Called) where
@@ -88,6 +82,19 @@ module _ (words mem : List ℕ) (n : ℕ) where
 
     pub plain-ran : {p : List ℕ} → is_refusal a ≡ false → p ≡ plain_array.packed next → called a u p mem' ≡ plain_run words mem n
     plain-ran r h = ap (λ (p : List ℕ). called a u p mem') h ∙ (left words mem (called a u (plain_array.packed next) mem') r ∙ plain-joined)
+
+-- ---- a run, refused or not
+
+module _ (words mem : List ℕ) (n : ℕ) (mem' : List ℕ) where
+  pub core-ended : {z : ℕ} → z ≡ refusal_of words (length mem) → z ≡ 0 → {c : Core} → c ≡ core_array.unpacked words → (r : Result (plain_record.Ran Core) Refusal)
+      → ran_as (pipeline.seen mem') c r ≡ pipeline.run (length mem) n (pipeline.seen mem c) → ended_in core_array.packed words mem' r ≡ core_run words mem n
+  core-ended i z e (Ok r) q = core-ran words mem n i z e q (of_stop r.stop) refl
+  core-ended i z {c} e (Err refusal) q = core_refused words mem n i z {next = c} e q (of_refusal refusal)
+
+  pub plain-ended : {p : Plain} → p ≡ plain_array.unpacked words → (r : Result (plain_record.Ran Plain) Refusal)
+      → ran_as (λ q. unpiped.machine q mem') p r ≡ plain.run n (unpiped.machine p mem) → ended_in plain_array.packed words mem' r ≡ plain_run words mem n
+  plain-ended e (Ok r) q = plain-ran words mem n e q (of_stop r.stop) refl
+  plain-ended {p} e (Err refusal) q = plain-refused words mem n {next = p} e q (of_refusal refusal)
 
 -- the writer's answer for an array
 pub no_word_there : (words : List ℕ) → stands_for_record words ≡ false → answer 5 0 ≡ word_of words

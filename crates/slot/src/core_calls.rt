@@ -3,15 +3,15 @@ ghost use Rattle.std.specs.Prelude.{◌≡◌};
 ghost use Rattle.slot.specs.Calls.{started, called, core_start, core_run};
 ghost use Rattle.slot.specs.Settle.{core_settle};
 
+use crate::kept::{begin, end};
 use crate::refusal::refusal_of;
 use core_arrays::CoreArray;
-use core_arrays::packing::pack;
 use core_arrays::unpacking::unpacked;
-use pipeline::{Core, zeroed};
+use pipeline::Core;
 use runs::left::cycles_left;
-use stops::reason::number;
 
 // A refused start leaves the zeroed core.
+#[tactic(auto, unfolding(crate::specs::Calls::core_start))]
 #[unsafe(no_mangle)]
 pub extern "C" fn slot_core_start(
     core: &mut CoreArray,
@@ -22,16 +22,8 @@ pub extern "C" fn slot_core_start(
 ) -> u32
     ensures { started result core.new ≡ core_start registers.now flags entry memory.now }
 {
-    match Core::start(*registers, flags, entry, memory) {
-        Ok(fresh) => {
-            pack(core, fresh);
-            0
-        }
-        Err(refusal) => {
-            pack(core, zeroed());
-            refusal.into()
-        }
-    }
+    let start = Core::start(*registers, flags, entry, memory);
+    begin(core, start, Core::default())
 }
 
 // A refused run writes neither the array nor the memory.
@@ -44,27 +36,21 @@ pub extern "C" fn slot_core_run(
 ) -> u32
     ensures { called result used.new core.new memory.new ≡ core_run core.old memory.old budget }
 {
-    *used = 0;
     if let Err(refusal) = refusal_of(core, memory.len()) {
+        *used = 0;
         return refusal.into();
     }
-    match unpacked(core).run(memory, budget) {
-        Ok(ran) => {
-            pack(core, ran.machine);
-            *used = ran.used;
-            number(ran.stop)
-        }
-        Err(refusal) => refusal.into(),
-    }
+    let run = unpacked(core).run(memory, budget);
+    end(core, used, run)
 }
 
 // The run whose budget is the cycles left, so that what a call of a few cycles goes through stands in one place.
+#[tactic(auto, using(crate::proofs::Settling::settled))]
 #[unsafe(no_mangle)]
 pub extern "C" fn slot_core_settle(core: &mut CoreArray, memory: &mut [u8], used: &mut u64) -> u32
     ensures { called result used.new core.new memory.new ≡ core_settle core.old memory.old }
 {
     let settling = unpacked(core);
-    let c = settling.control;
-    let left = cycles_left(c, &settling.registers);
+    let left = cycles_left(settling.control, &settling.registers);
     slot_core_run(core, memory, left, used)
 }

@@ -2,10 +2,11 @@
 ghost use Rattle.std.specs.Prelude.{◌≡◌};
 ghost use Rattle.slot.specs.Calls.{started, called, plain_start, plain_run};
 
-use plain::{Plain, zeroed};
-use plain_arrays::{PlainArray, pack, unpacked};
-use stops::reason::number;
+use crate::kept::{begin, end};
+use plain::Plain;
+use plain_arrays::{PlainArray, unpacked};
 
+#[tactic(auto, unfolding(crate::specs::Calls::plain_start))]
 #[unsafe(no_mangle)]
 pub extern "C" fn slot_plain_start(
     plain: &mut PlainArray,
@@ -16,16 +17,8 @@ pub extern "C" fn slot_plain_start(
 ) -> u32
     ensures { started result plain.new ≡ plain_start registers.now flags entry memory.now }
 {
-    match Plain::start(*registers, flags, entry, memory) {
-        Ok(fresh) => {
-            pack(plain, fresh);
-            0
-        }
-        Err(refusal) => {
-            pack(plain, zeroed());
-            refusal.into()
-        }
-    }
+    let start = Plain::start(*registers, flags, entry, memory);
+    begin(plain, start, Plain::default())
 }
 
 #[unsafe(no_mangle)]
@@ -37,13 +30,6 @@ pub extern "C" fn slot_plain_run(
 ) -> u32
     ensures { called result used.new plain.new memory.new ≡ plain_run plain.old memory.old count }
 {
-    *used = 0;
-    match unpacked(plain).run(memory, count) {
-        Ok(ran) => {
-            pack(plain, ran.machine);
-            *used = ran.used;
-            number(ran.stop)
-        }
-        Err(refusal) => refusal.into(),
-    }
+    let run = unpacked(plain).run(memory, count);
+    end(plain, used, run)
 }

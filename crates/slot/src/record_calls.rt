@@ -9,7 +9,7 @@ use record_arrays::packing::record_words;
 use record_arrays::standing::stands_for_record;
 use record_arrays::unpacking::record_of;
 use word::reader::read;
-use writer::{NO_WORD_FOR, write};
+use writer::{NoWord, write};
 
 #[unsafe(no_mangle)]
 pub extern "C" fn slot_word_read(word: u32, fields: &mut RecordArray)
@@ -25,7 +25,7 @@ pub extern "C" fn slot_word_write(fields: &RecordArray, word: &mut u32) -> u32
 {
     *word = 0;
     if !stands_for_record(fields) {
-        return NO_WORD_FOR;
+        return NoWord.into();
     }
     match write(record_of(fields)) {
         Ok(w) => {

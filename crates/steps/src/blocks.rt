@@ -43,7 +43,7 @@ fn load_more(k: u32, left: u32, registers: &mut [u32; 15], memory: &[u8], found:
     requires { (k < 16) × (1 < length (block.named left)) }
     ensures { own registers.new result (memory_of found.board memory.now) ≡ load_step k (block.named left) registers.old found.flags found.latches (memory_of found.board memory.now) }
 {
-    put(registers, lowest(left), found.latches.datum);
+    put(registers, lowest(left).unwrap_or(16), found.latches.datum);
     let address = next_to_move(count(rest(rest(left))), found.latches.address);
     let latches = Latches {
         address,
@@ -60,7 +60,12 @@ fn load_step(k: u32, list: u32, registers: &mut [u32; 15], memory: &[u8], found:
     let left = dropped(list, k);
     match count(left) {
         0 => still(found.flags, After::Done(Ended::Executed)),
-        1 => last(arrive(registers, found.flags, lowest(left), found.latches.datum)),
+        1 => last(arrive(
+            registers,
+            found.flags,
+            lowest(left).unwrap_or(16),
+            found.latches.datum,
+        )),
         _ => load_more(k, left, registers, memory, found),
     }
 }
@@ -85,7 +90,7 @@ fn store_more(k: u32, left: u32, registers: &[u32; 15], memory: &mut [u8], found
         found.latches.address,
         found.latches.datum,
     );
-    let datum = single::stored_value(registers, lowest(rest(left)), found.flags, found.pc);
+    let datum = single::stored_value(registers, lowest(rest(left)).unwrap_or(16), found.r15());
     let latches = Latches {
         address: next(found.latches.address),
         datum,

@@ -11,16 +11,17 @@ ghost use Rattle.steps.specs.Steps.{own, last, load_later, store_later, multiply
 use crate::blocks::later_block;
 use crate::ending::{last, on, still};
 use crate::{After, Ended, Found, Latches, Phase, Step};
+use datapath::counter::R15;
 use multiply::{m_of, multiply};
 use processing::process;
 use registers::{arrive, register};
 use transfer::single;
 use word::{Instruction, Multiply, Processing, Single, reader};
 
-fn later_processing(i: Processing, registers: &mut [u32; 15], flags: u32, pc: u32) -> Step
-    ensures { (mem : Memory) → own registers.new result mem ≡ last (processed i registers.old flags pc) mem }
+fn later_processing(i: Processing, registers: &mut [u32; 15], r15: R15) -> Step
+    ensures { (mem : Memory) → own registers.new result mem ≡ last (processed i registers.old r15.flags r15.pc) mem }
 {
-    last(process(i, registers, flags, pc))
+    last(process(i, registers, r15))
 }
 
 // A load: read and base; register.
@@ -75,7 +76,7 @@ fn later_multiply(i: Multiply, k: u32, registers: &mut [u32; 15], flags: u32) ->
     ensures { (mem : Memory) → own registers.new result mem ≡ multiply_later i k registers.old flags mem }
 {
     let m = m_of(register(registers, i.rs, 0));
-    if k as u64 + 1 < m as u64 {
+    if u64::from(k) + 1 < u64::from(m) {
         still(flags, After::More(Phase::Later(k + 1)))
     } else {
         still(multiply(i, registers, flags), After::Done(Ended::Executed))
@@ -93,7 +94,7 @@ pub fn later_step(
     ensures { own registers.new result (memory_of found.board memory.new) ≡ later_step (read_of word) k registers.old found.flags found.pc found.latches (memory_of found.board memory.old) }
 {
     match reader::read(word) {
-        Instruction::Processing(i) => later_processing(i, registers, found.flags, found.pc),
+        Instruction::Processing(i) => later_processing(i, registers, found.r15()),
         Instruction::Single(i) => later_single(i, k, registers, memory, found),
         Instruction::Block(i) => later_block(i, k, registers, memory, found),
         Instruction::Branch(_) => still(found.flags, After::Done(Ended::Executed)),

@@ -6,6 +6,9 @@ pub mod ending;
 pub mod first;
 pub mod later;
 
+ghost use Rattle.std.specs.Prelude.{◌≡◌};
+
+use datapath::counter::R15;
 use memory::Board;
 
 // What the next cycle does. Steps 2 and later are counted from 0.
@@ -48,6 +51,17 @@ pub struct Found {
     pub pc: u32,
     pub latches: Latches,
     pub board: Board,
+}
+
+impl Found {
+    pub fn r15(self) -> R15
+        ensures { (result.flags ≡ self.flags) × (result.pc ≡ self.pc) }
+    {
+        R15 {
+            flags: self.flags,
+            pc: self.pc,
+        }
+    }
 }
 
 // What a step leaves beside the registers and the memory, which are lent.

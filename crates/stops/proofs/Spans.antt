@@ -26,9 +26,9 @@ some-outside (suc n) a board h = go (ltb a (limit board)) (some-outside n (a + 4
     go false k = refl
     go true k = k
 
-pub last-decides : (n a : ℕ) (board : Board) → n ≢ 0 → leb (limit board) (a + 4 * (n - 1)) ≡ outside (span n a) board
-last-decides zero a board z = absurd (z refl)
-last-decides (suc n) a board z =
+pub last_decides : (n a : ℕ) (board : Board) → n ≢ 0 → leb (limit board) (a + 4 * (n - 1)) ≡ outside (span n a) board
+last_decides zero a board z = absurd (z refl)
+last_decides (suc n) a board z =
     let m : suc n - 1 ≡ n = omega arith in
     rw m (go (ltb (a + 4 * n) (limit board)) refl)
   where

@@ -1,8 +1,7 @@
 // The rules of stop 23.
 ghost use Rattle.std.specs.Prelude.{◌≡◌, ◌&&◌, ◌||◌};
 ghost use Rattle.transfer.specs.Single.{writes_base};
-ghost use Rattle.memory.specs.Memory.{Memory};
-ghost use Rattle.registers.specs.State.{state};
+ghost use Rattle.registers.specs.State.{State};
 ghost use Rattle.stops.specs.declared.reason.Stop.TheVariants.{BrokenRule};
 ghost use Rattle.stops.specs.Numbers.{rule_number};
 ghost use Rattle.stops.specs.Rules.{first_broken, is15, rs_is15, rm_is15, processing_rules, single_rules, block_rules, multiply_rules};
@@ -55,15 +54,12 @@ fn rs_is_15(o: Operand) -> bool
 fn rm_is_15(o: Operand) -> bool
     ensures { result ≡ rm_is15 o }
 {
-    match o {
-        Operand::Constant { .. } => false,
-        Operand::ShiftByAmount { rm, .. } | Operand::ShiftByRegister { rm, .. } => 15 <= rm,
-    }
+    matches!(o, Operand::ShiftByAmount { rm, .. } | Operand::ShiftByRegister { rm, .. } if 15 <= rm)
 }
 
 // The first rule that is broken.
-pub fn processing_rule(i: Processing, registers: &[u32; 15], flags: u32, a: u32) -> Result<(), Rule>
-    ensures { (mem : Memory) → rule_number result ≡ first_broken 1 (processing_rules i (state registers.now flags a mem)) }
+pub fn processing_rule(i: Processing) -> Result<(), Rule>
+    ensures { (s : State) → rule_number result ≡ first_broken 1 (processing_rules i s) }
 {
     if rs_is_15(i.operand) {
         return Err(Rule::ShiftBy15);

@@ -18,7 +18,6 @@ use crate::span::{hits, outside};
 use bits::field;
 use condition::passes;
 use datapath::counter::ahead;
-use memory::Board;
 use registers::Context;
 use transfer::block::lowest_address;
 use transfer::named::count;
@@ -26,10 +25,10 @@ use transfer::single::address;
 use word::{Block, Instruction, Multiply, Processing, Single, reader};
 
 // A word at A+4 or A+8 is among them.
-fn fetched_ahead(first: u32, n: u32, a: u32, board: Board) -> bool
-    ensures { result ≡ (hits (span n first) (ahead a 4) board || hits (span n first) (ahead a 8) board) }
+fn fetched_ahead(first: u32, n: u32, c: Context) -> bool
+    ensures { result ≡ (hits (span n first) (ahead c.a 4) c.board || hits (span n first) (ahead c.a 8) c.board) }
 {
-    hits(first, n, ahead(a, 4), board) | hits(first, n, ahead(a, 8), board)
+    hits(first, n, ahead(c.a, 4), c.board) | hits(first, n, ahead(c.a, 8), c.board)
 }
 
 // 24 before 25.
@@ -46,53 +45,42 @@ fn ordered(out: bool, fetched: bool) -> Result<(), Stop>
 }
 
 // 24 and 25 of n words from a first address on.
-fn moved_stop(first: u32, n: u32, load: bool, a: u32, board: Board) -> Result<(), Stop>
-    ensures { stop_number result ≡ moved_stop (span n first) (pick load [] (span n first)) a board }
+fn moved_stop(first: u32, n: u32, load: bool, c: Context) -> Result<(), Stop>
+    ensures { stop_number result ≡ moved_stop (span n first) (pick load [] (span n first)) c.a c.board }
 {
-    let out = outside(first, n, board);
+    let out = outside(first, n, c.board);
     if load {
         return ordered(out, false);
     }
-    ordered(out, fetched_ahead(first, n, a, board))
+    ordered(out, fetched_ahead(first, n, c))
 }
 
-pub fn processing_stop(i: Processing, registers: &[u32; 15], c: Context) -> Result<(), Stop>
-    ensures { (mem : Memory) → stop_number result ≡ stop_of (Instruction.Processing i) (state registers.now c.flags c.a mem) }
+pub fn processing_stop(i: Processing) -> Result<(), Stop>
+    ensures { (s : State) → stop_number result ≡ stop_of (Instruction.Processing i) s }
 {
-    processing_rule(i, registers, c.flags, c.a)?;
+    processing_rule(i)?;
     Ok(())
 }
 
 // Of a single transfer whose address is at hand.
-pub fn single_stop_at(i: Single, address: u32, a: u32, board: Board) -> Result<(), Stop>
-    ensures { stop_number result ≡ single_stop_at i address a board }
+pub fn single_stop_at(i: Single, address: u32, c: Context) -> Result<(), Stop>
+    ensures { stop_number result ≡ single_stop_at i address c.a c.board }
 {
     single_rule(i)?;
-    moved_stop(address, 1, i.l, a, board)
+    moved_stop(address, 1, i.l, c)
 }
 
 pub fn single_stop(i: Single, registers: &[u32; 15], c: Context) -> Result<(), Stop>
     ensures { (bytes : List ℕ) → stop_number result ≡ stop_of (Instruction.Single i) (state_in c registers.now bytes) }
 {
-    single_stop_at(
-        i,
-        address(i, registers, c.flags, ahead(c.a, 8)),
-        c.a,
-        c.board,
-    )
+    single_stop_at(i, address(i, registers, c.r15(8)), c)
 }
 
 pub fn block_stop(i: Block, registers: &[u32; 15], c: Context) -> Result<(), Stop>
     ensures { (bytes : List ℕ) → stop_number result ≡ stop_of (Instruction.Block i) (state_in c registers.now bytes) }
 {
     block_rule(i)?;
-    moved_stop(
-        lowest_address(i, registers),
-        count(i.list),
-        i.l,
-        c.a,
-        c.board,
-    )
+    moved_stop(lowest_address(i, registers), count(i.list), i.l, c)
 }
 
 pub fn multiply_stop(i: Multiply) -> Result<(), Stop>
@@ -107,7 +95,7 @@ fn word_stop(word: u32, registers: &[u32; 15], c: Context) -> Result<(), Stop>
     ensures { (bytes : List ℕ) → stop_number result ≡ stop_of (read_of word) (state_in c registers.now bytes) }
 {
     match reader::read(word) {
-        Instruction::Processing(i) => processing_stop(i, registers, c),
+        Instruction::Processing(i) => processing_stop(i),
         Instruction::Single(i) => single_stop(i, registers, c),
         Instruction::Block(i) => block_stop(i, registers, c),
         Instruction::Branch(_) => Ok(()),
@@ -116,7 +104,7 @@ fn word_stop(word: u32, registers: &[u32; 15], c: Context) -> Result<(), Stop>
     }
 }
 
-// The stop that what was fetched at `a` meets, or 0.
+// The stop that what was fetched meets, if there is one.
 pub fn stop_for(x: Option<u32>, registers: &[u32; 15], c: Context) -> Result<(), Stop>
     ensures { (bytes : List ℕ) → stop_number result ≡ stop_for x (state_in c registers.now bytes) }
 {

@@ -1,9 +1,9 @@
 // The memory of a case, in a buffer that is longer than any memory that a start takes, so that a longer one can be lent.
-ghost use Rattle.std.specs.Prelude.{◌≡◌, ◌≤◌, ◌/◌, min, length};
+ghost use Rattle.std.specs.Prelude.{◌≡◌, ◌/◌, min, length};
 ghost use Rattle.io.specs.Counts.{IsPrefixLen};
 
 use crate::{print, token};
-use memory::bytes::{put_word, word_in};
+use memory::bytes::put_word;
 
 pub const BYTES: usize = 65544;
 
@@ -29,16 +29,16 @@ pub fn read_words(memory: &mut [u8], k: u32) {
 }
 
 // How many words of a memory of so many bytes are printed.
-fn shown(length: usize) -> u32
-    ensures value { result ≡ min length 256 / 4 }
-    ensures upper_bound { result ≤ 64 }
+fn shown(length: usize) -> usize
+    ensures { result ≡ min length 256 / 4 }
 {
-    (length.min(256) / 4) as u32
+    length.min(256) / 4
 }
 
-// The first words of the first bytes, as a line that a case leaves ends.
-pub fn print_words(memory: &[u8], length: usize) {
-    for i in 0..shown(length) {
-        print::next(word_in(memory, i * 4));
+// The first words of a memory, as a line that a case leaves ends.
+pub fn print_words(memory: &[u8]) {
+    let (words, _) = memory.as_chunks();
+    for word in &words[..shown(memory.len())] {
+        print::next(u32::from_le_bytes(*word));
     }
 }

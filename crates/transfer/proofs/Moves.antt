@@ -9,36 +9,11 @@ use Rattle.registers.specs.Registers.{put, Out, out, arrives}
 use Rattle.transfer.specs.Single.{stored_value}
 use Rattle.transfer.specs.Block.{next, loads, stores, stores_all}
 
-module _ (g : List ℕ) (f a : ℕ) (mem : Memory) where
-  pub loads-none : (xs : List ℕ) → length xs ≡ 0 → loads xs g f a mem ≡ out g f None
-  unfolding loads
-  loads-none [] h = refl
-  loads-none (x ∷ xs) h = absurd (omega arith)
-
-  pub loads-last : (xs : List ℕ) → length xs ≡ 1 → loads xs g f a mem ≡ arrives g f (get_or xs 0 16) (read_word mem a)
-  unfolding loads
-  loads-last [] h = absurd (omega arith)
-  loads-last (x ∷ []) h = refl
-  loads-last (x ∷ (y ∷ ys)) h = absurd (omega arith)
-
-  pub loads-step : (xs : List ℕ) → 1 < length xs
-      → loads xs g f a mem ≡ loads (tail xs) (put g (get_or xs 0 16) (read_word mem a)) f (next a) mem
-  unfolding loads
-  loads-step [] h = absurd (omega arith)
-  loads-step (x ∷ []) h = absurd (omega arith)
-  loads-step (x ∷ (y ∷ ys)) h = refl
-
 module _ (g : List ℕ) (f a12 a : ℕ) (mem : Memory) where
   pub stores-none : (xs : List ℕ) → length xs ≡ 0 → stores xs g f a12 a mem ≡ mem
   unfolding stores
   stores-none [] h = refl
   stores-none (x ∷ xs) h = absurd (omega arith)
-
-  pub stores-step : (xs : List ℕ) → 0 < length xs
-      → stores xs g f a12 a mem ≡ stores (tail xs) g f a12 (next a) (write_word mem a (stored_value g (get_or xs 0 16) f a12))
-  unfolding stores
-  stores-step [] h = absurd (omega arith)
-  stores-step (x ∷ xs) h = refl
 
   -- the lowest alone
   pub stores-lowest : (xs : List ℕ) → 0 < length xs → stores (take 1 xs) g f a12 a mem ≡ write_word mem a (stored_value g (get_or xs 0 16) f a12)

@@ -235,10 +235,6 @@ lowest-le list = rw (named-lowest list) (head-le 0 (named list) (named-rising li
 
 -- ---- a list without its first
 
-pub tail-length : (xs : List ℕ) → length (tail xs) ≡ length xs - 1
-tail-length [] = refl
-tail-length (x ∷ xs) = omega arith
-
 pub drop-tail : (k : ℕ) (xs : List ℕ) → 0 < k → drop (k - 1) (tail xs) ≡ drop k xs
 drop-tail zero xs h = absurd (omega arith)
 drop-tail (suc k) xs h = let e : suc k - 1 ≡ k = omega arith in rw e (go xs)
@@ -254,3 +250,11 @@ none-named list e = go (named list) (named-rising list) e
     go : (xs : List ℕ) → Rising 16 0 xs → get_or xs 0 16 ≡ 16 → xs ≡ []
     go [] r e = refl
     go (x ∷ xs) r e = let h = rising-lt 16 0 x xs r in let f : ⊥ = omega (arith, h, e) in absurd f
+
+-- where it finds one, that is the first
+pub some-named : (list : ℕ) → (lowest list ≡ 16 → ⊥) → named list ≡ lowest list ∷ tail (named list)
+some-named list h = go (named list) (named-lowest list)
+  where
+    go : (xs : List ℕ) → lowest list ≡ get_or xs 0 16 → xs ≡ lowest list ∷ tail xs
+    go [] e = absurd (h e)
+    go (x ∷ xs) e = rw e refl

@@ -1,4 +1,4 @@
-// Block transfers (paper 01, "Block"). Where `a12` is lent, it is A+12, as which R15 is stored.
+// Block transfers (paper 01, "Block"). R15 is stored as what is lent as `r15`, at A+12.
 ghost use Rattle.std.specs.Prelude.{◌≡◌, ◌+◌, ◌%◌, ◌^◌, take};
 ghost use Rattle.memory.specs.Bytes.{word_base};
 ghost use Rattle.memory.specs.Memory.{memory_of};
@@ -7,6 +7,7 @@ ghost use Rattle.transfer.specs.Block.{named, base_of, changed_base, above, lowe
 
 use crate::named::NamedRegisters;
 use crate::{named, single};
+use datapath::counter::R15;
 use memory;
 use memory::Board;
 use memory::bytes::word_base;
@@ -18,7 +19,7 @@ use word::Block;
 pub fn next(address: u32) -> u32
     ensures { result ≡ next address }
 {
-    std::num::wrapping_add_u32(address, 4)
+    address.wrapping_add(4)
 }
 
 // The base, which is never R15 in an instruction that is done.
@@ -50,10 +51,11 @@ fn above(u: bool, p: bool) -> u32
 fn begin(low: u32, by: u32) -> u32
     ensures { result ≡ word_base ((low + by) % 2 ^ 32) }
 {
-    word_base(std::num::wrapping_add_u32(low, by))
+    word_base(low.wrapping_add(by))
 }
 
 // Where the lowest register goes, low two bits cleared.
+#[tactic(auto, unfolding(crate::specs::Block::lowest_address))]
 pub fn lowest_address(i: Block, registers: &[u32; 15]) -> u32
     ensures { result ≡ lowest_address i registers.now }
 {
@@ -66,6 +68,7 @@ pub fn lowest_address(i: Block, registers: &[u32; 15]) -> u32
 }
 
 // Only W writes the base.
+#[tactic(auto, unfolding(crate::specs::Block::with_base))]
 pub fn write_base(i: Block, registers: &mut [u32; 15], base: u32)
     ensures { registers.new ≡ with_base i registers.old base }
 {
@@ -95,25 +98,20 @@ pub fn load(
 }
 
 // The named registers stored, lowest first.
+#[tactic(auto, unfolding(crate::specs::Block::stores))]
 pub fn store(
     list: u32,
     registers: &[u32; 15],
-    flags: u32,
-    a12: u32,
+    r15: R15,
     address: u32,
     memory: &mut [u8],
     board: Board,
 )
-    ensures { memory_of board memory.new ≡ stores (named list) registers.now flags a12 address (memory_of board memory.old) }
+    ensures { memory_of board memory.new ≡ stores (named list) registers.now r15.flags r15.pc address (memory_of board memory.old) }
 {
     let mut at = address;
     for n in NamedRegisters(list) {
-        memory::write_word(
-            memory,
-            board,
-            at,
-            single::stored_value(registers, n, flags, a12),
-        );
+        memory::write_word(memory, board, at, single::stored_value(registers, n, r15));
         at = next(at);
     }
 }
@@ -122,42 +120,29 @@ pub fn store(
 fn store_lowest(
     list: u32,
     registers: &[u32; 15],
-    flags: u32,
-    a12: u32,
+    r15: R15,
     address: u32,
     memory: &mut [u8],
     board: Board,
 )
-    ensures { memory_of board memory.new ≡ stores (take 1 (named list)) registers.now flags a12 address (memory_of board memory.old) }
+    ensures { memory_of board memory.new ≡ stores (take 1 (named list)) registers.now r15.flags r15.pc address (memory_of board memory.old) }
 {
-    if 0 < named::count(list) {
-        memory::write_word(
-            memory,
-            board,
-            address,
-            single::stored_value(registers, named::lowest(list), flags, a12),
-        );
+    if let Some(n) = named::lowest(list) {
+        let value = single::stored_value(registers, n, r15);
+        memory::write_word(memory, board, address, value);
     }
 }
 
 // A whole store: the lowest register from the old registers, the others after the base is written.
-pub fn store_all(
-    i: Block,
-    registers: &mut [u32; 15],
-    flags: u32,
-    a12: u32,
-    memory: &mut [u8],
-    board: Board,
-)
+pub fn store_all(i: Block, registers: &mut [u32; 15], r15: R15, memory: &mut [u8], board: Board)
     ensures registers_after { registers.new ≡ with_base i registers.old (changed_base i registers.old) }
-    ensures memory_after { memory_of board memory.new ≡ stores_all (named i.list) registers.old (with_base i registers.old (changed_base i registers.old)) flags a12 (lowest_address i registers.old) (memory_of board memory.old) }
+    ensures memory_after { memory_of board memory.new ≡ stores_all (named i.list) registers.old (with_base i registers.old (changed_base i registers.old)) r15.flags r15.pc (lowest_address i registers.old) (memory_of board memory.old) }
 {
-    let list = i.list;
     let address = lowest_address(i, registers);
     let base = changed_base(i, registers);
-    store_lowest(list, registers, flags, a12, address, memory, board);
+    store_lowest(i.list, registers, r15, address, memory, board);
     write_base(i, registers, base);
-    let others = named::rest(list);
+    let others = named::rest(i.list);
     let after = next(address);
-    store(others, registers, flags, a12, after, memory, board);
+    store(others, registers, r15, after, memory, board);
 }

@@ -1,5 +1,5 @@
 // The named registers of a block list, whose low 16 bits stand for R0 to R15.
-ghost use Rattle.std.specs.Prelude.{◌≡◌, length, drop, slice_index_or};
+ghost use Rattle.std.specs.Prelude.{◌≡◌, [], ◌∷◌, MatchOption, unwrap_or, length, drop, slice_index_or};
 ghost use Rattle.std.specs.Iterator.{YieldsFirst, item_count};
 ghost use mathlib.Core.List.{tail};
 ghost use Rattle.transfer.specs.Block.{named, list_of};
@@ -10,11 +10,13 @@ pub fn count(list: u32) -> u32
     (list % 65536).count_ones()
 }
 
-// The lowest named register, or 16: a bit above the registers ends the search.
-pub fn lowest(list: u32) -> u32
-    ensures { result ≡ slice_index_or (named list) 0 16 }
+// The lowest named register: a bit above the registers ends the search.
+pub fn lowest(list: u32) -> Option<u32>
+    ensures first { MatchOption result (named list ≡ []) (λ n. named list ≡ n ∷ tail (named list)) }
+    ensures or_16 { unwrap_or result 16 ≡ slice_index_or (named list) 0 16 }
 {
-    (list % 65536 + 65536).trailing_zeros()
+    let n = (list % 65536 + 65536).trailing_zeros();
+    if n < 16 { Some(n) } else { None }
 }
 
 // The list without its lowest register.
@@ -53,10 +55,7 @@ impl Iterator for NamedRegisters {
     ghost remaining = { item_count (λ s. named s.0) };
 
     fn next(&mut self) -> Option<u32> {
-        let first = lowest(self.0);
-        if first == 16 {
-            return None;
-        }
+        let first = lowest(self.0)?;
         self.0 = rest(self.0);
         Some(first)
     }

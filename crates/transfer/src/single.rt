@@ -6,7 +6,8 @@ ghost use Rattle.memory.specs.Memory.{memory_of};
 ghost use Rattle.transfer.specs.Single.{offset_of, moved, changed_base, address_of, writes_base, with_base, loaded_value, stored_value, stored_to};
 
 use crate::Reach;
-use datapath::{alu, counter, shifter};
+use datapath::counter::R15;
+use datapath::{alu, shifter};
 use memory;
 use memory::Board;
 use registers;
@@ -21,11 +22,12 @@ fn shifted_offset(kind: u32, v: u32, amount: u32, flags: u32) -> u32
 }
 
 // Twelve bits, or Rm shifted by an amount in the word.
+#[tactic(auto, unfolding(crate::specs::Single::offset_of))]
 pub fn offset(o: Operand, registers: &[u32; 15], flags: u32) -> u32
     ensures { result ≡ offset_of o registers.now flags }
 {
     match o {
-        Operand::Constant { rotate, value } => std::num::wrapping_add_u32(rotate << 8, value),
+        Operand::Constant { rotate, value } => (rotate << 8).wrapping_add(value),
         Operand::ShiftByAmount { rm, shift, amount } => {
             shifted_offset(shift, registers::register(registers, rm, 0), amount, flags)
         }
@@ -38,19 +40,19 @@ pub fn moved(up: bool, base: u32, offset: u32) -> u32
     ensures { result ≡ moved up base offset }
 {
     if up {
-        std::num::wrapping_add_u32(base, offset)
+        base.wrapping_add(offset)
     } else {
-        std::num::wrapping_sub_u32(base, offset)
+        base.wrapping_sub(offset)
     }
 }
 
 // The changed base and the address, each made once: the address is the changed base, or the base if P = 0.
-pub fn reach(i: Single, registers: &[u32; 15], flags: u32, pc: u32) -> Reach
-    ensures { (result.base ≡ changed_base i registers.now flags pc) × (result.address ≡ address_of i registers.now flags pc) }
+#[tactic(auto, unfolding(crate::specs::Single::changed_base, crate::specs::Single::address_of))]
+pub fn reach(i: Single, registers: &[u32; 15], r15: R15) -> Reach
+    ensures { (result.base ≡ changed_base i registers.now r15.flags r15.pc) × (result.address ≡ address_of i registers.now r15.flags r15.pc) }
 {
-    let o = i.offset;
-    let rn = registers::register(registers, i.rn, pc);
-    let base = moved(i.u, rn, offset(o, registers, flags));
+    let rn = registers::register(registers, i.rn, r15.pc);
+    let base = moved(i.u, rn, offset(i.offset, registers, r15.flags));
     if i.p {
         Reach {
             base,
@@ -61,16 +63,16 @@ pub fn reach(i: Single, registers: &[u32; 15], flags: u32, pc: u32) -> Reach
     }
 }
 
-pub fn changed_base(i: Single, registers: &[u32; 15], flags: u32, pc: u32) -> u32
-    ensures { result ≡ changed_base i registers.now flags pc }
+pub fn changed_base(i: Single, registers: &[u32; 15], r15: R15) -> u32
+    ensures { result ≡ changed_base i registers.now r15.flags r15.pc }
 {
-    reach(i, registers, flags, pc).base
+    reach(i, registers, r15).base
 }
 
-pub fn address(i: Single, registers: &[u32; 15], flags: u32, pc: u32) -> u32
-    ensures { result ≡ address_of i registers.now flags pc }
+pub fn address(i: Single, registers: &[u32; 15], r15: R15) -> u32
+    ensures { result ≡ address_of i registers.now r15.flags r15.pc }
 {
-    reach(i, registers, flags, pc).address
+    reach(i, registers, r15).address
 }
 
 pub fn writes_base(i: Single) -> bool
@@ -79,6 +81,7 @@ pub fn writes_base(i: Single) -> bool
     !i.p | i.w
 }
 
+#[tactic(auto, unfolding(crate::specs::Single::with_base))]
 pub fn write_base(i: Single, registers: &mut [u32; 15], base: u32)
     ensures { registers.new ≡ with_base i registers.old base }
 {
@@ -88,6 +91,7 @@ pub fn write_base(i: Single, registers: &mut [u32; 15], base: u32)
 }
 
 // A word comes rotated by its place in the word of memory.
+#[tactic(auto, unfolding(crate::specs::Single::loaded_value))]
 pub fn loaded_value(i: Single, memory: &[u8], board: Board, address: u32) -> u32
     ensures { result ≡ loaded_value i (memory_of board memory.now) address }
 {
@@ -98,13 +102,15 @@ pub fn loaded_value(i: Single, memory: &[u8], board: Board, address: u32) -> u32
     }
 }
 
-// Register n as a store sends it: R15 is the flags with `a12`, which is A+12.
-pub fn stored_value(registers: &[u32; 15], n: u32, flags: u32, a12: u32) -> u32
-    ensures { result ≡ stored_value registers.now n flags a12 }
+// Register n as a store sends it: R15 with its flags, and A+12 for the counter.
+#[tactic(auto, unfolding(crate::specs::Single::stored_value))]
+pub fn stored_value(registers: &[u32; 15], n: u32, r15: R15) -> u32
+    ensures { result ≡ stored_value registers.now n r15.flags r15.pc }
 {
-    registers::register(registers, n, counter::r15_word(flags, a12))
+    registers::register(registers, n, r15.word())
 }
 
+#[tactic(auto, unfolding(crate::specs::Single::stored_to))]
 pub fn store(i: Single, memory: &mut [u8], board: Board, address: u32, value: u32)
     ensures { memory_of board memory.new ≡ stored_to i (memory_of board memory.old) address value }
 {

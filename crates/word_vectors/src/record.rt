@@ -105,6 +105,6 @@ fn print_fields(fields: &[(&[u8], u32)]) {
 
 // How many digits a number has without leading zeros: one for each four bits begun, and one for 0.
 fn digits(value: u32) -> usize {
-    let bits = 32 - u32::leading_zeros(value | 1) % 32;
-    ((bits + 3) / 4) as usize
+    let bits = 32 - (value | 1).leading_zeros() % 32;
+    bits.div_ceil(4) as usize
 }

@@ -79,16 +79,6 @@ pub allowed : (b : Bool) (m : Result ℕ NoWord) (w : ℕ) → allow b m ≡ Ok 
 allowed true m w e = (refl, e)
 allowed false m w e = (cc, cc)
 
--- of a value alone
-pub allowed-value : (b : Bool) (v w : ℕ) → allow b (Ok v) ≡ Ok w → (b ≡ true) × (w ≡ v)
-allowed-value true v w h = (refl, cc)
-allowed-value false v w h = (cc, cc)
-
--- what is refused though it is a value fails the test
-pub not-allowed : (b : Bool) (w : ℕ) (e : NoWord) → allow b (Ok w) ≡ Err e → b ≡ false
-not-allowed true w e h = cc
-not-allowed false w e h = refl
-
 put_back : (m : Result ℕ NoWord) (k v w : ℕ) → put m k v ≡ Ok w → (m ≡ Ok (w / 2 ^ k)) × (w % 2 ^ k ≡ v)
 unfolding put
 put_back (Err r) k v w e = (cc, cc)

@@ -1,5 +1,5 @@
 // The writer: a record as its word, fields put one behind the other from the highest to the lowest.
-#![tactic(auto)]
+#![tactic(auto, unfolding(crate::specs::Writer::written))]
 
 ghost use Rattle.std.specs.Prelude.{◌≡◌, ◌<◌, Ok, map, IsTrue};
 ghost use Rattle.std.specs.List.{list_all};
@@ -86,6 +86,7 @@ fn processing_class(operand: Operand) -> u32
     }
 }
 
+#[tactic(auto, using(crate::proofs::Fields::refused), unfolding(crate::specs::Writer::written))]
 fn processing(i: Processing) -> Result<u32, NoWord>
     ensures { result ≡ written (Instruction.Processing i) }
 {
@@ -112,6 +113,7 @@ fn single_class(offset: Operand) -> Result<u32, NoWord>
     }
 }
 
+#[tactic(auto, using(crate::proofs::Fields::refused), unfolding(crate::specs::Writer::written))]
 fn single(i: Single) -> Result<u32, NoWord>
     ensures { result ≡ written (Instruction.Single i) }
 {

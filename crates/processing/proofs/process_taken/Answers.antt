@@ -1,9 +1,6 @@
 use Rattle.processing.proofs.Parts.{joined-value}
 use Rattle.processing.proofs.process_taken.Goals as goal
 
-pub flags_after-f-requires : goal.flags_after-f-requires
-flags_after-f-requires c = rw (← c.carry_of.ensures) (c.result-value.ensures _ _)
-
 pub returns : goal.returns
 returns c =
     joined-value _ _ _ _ c.register-rn.ensures c.requires (rw (← c.carry_of.ensures) (c.result-value.ensures _ _))

@@ -1,5 +1,5 @@
 -- The report of an image: its start, and where that is accepted its run, told line by line. Assumes nothing.
-use Rattle.std.proofs.Common.{sym, refl, arith}
+use Rattle.std.proofs.Common.{sym, refl}
 use Rattle.plain.proofs.Told.{some_number}
 use Rattle.report.specs.Report.{begun}
 use Rattle.report.proofs.Room.{whole}

@@ -1,8 +1,8 @@
-use Rattle.std.proofs.Common.{refl, sym, ◌∙◌, arith}
+use Rattle.std.proofs.Common.{refl, ◌∙◌, arith}
 use Rattle.plain.specs.Machine.{machine}
 use Rattle.plain.specs.Run.{run}
 use Rattle.stops.proofs.Numbers.{some_number}
-use Rattle.plain.proofs.Accepted.{budgeted, standing, none-held}
+use Rattle.plain.proofs.Accepted.{budgeted, standing, no-stop-zero}
 use Rattle.plain.proofs.Running.{ends_by, goes_by}
 use Rattle.plain.proofs.WholeSteps.{run-told}
 use Rattle.plain.proofs.Told as told
@@ -23,7 +23,7 @@ pub returns : goal.returns
 unfolding run
 returns c =
     let m = machine c.args.self c.args.memory.now in
-    let none = none-held c.args.self.stop (standing _ _ _ c.in_ok-refusal.ensures) c.in_default.ensures.0 in
+    let none = no-stop-zero c.args.self.stop (standing _ _ _ c.in_ok-refusal.ensures) c.in_default.ensures.0 in
     rw c.number.ensures
     (run-told _ m none c.wholes-came.ensures
     ∙ goes_by m _ refl none

@@ -1,11 +1,8 @@
 -- The loop's invariant: what is left of both budgets, from here, comes to the whole. Assumes nothing.
 use Rattle.std.proofs.Common.{rules, ◌≡◌, refl, arith}
 use Rattle.stops.proofs.Numbers.{some_number}
-use Rattle.plain.proofs.WholeSteps.{left-start, left_step, left-stop, left-short, left-done, left-cycles, stop-told, cycles-told, step-told, goes-told}
+use Rattle.plain.proofs.WholeSteps.{left_step, left-stop, left-short, left-done, left-cycles, stop-told, cycles-told, step-told, goes-told}
 use Rattle.plain.proofs.whole.wholes.Goals as goal
-
-pub loop-done-init : goal.loop-done-init
-loop-done-init c = (left-start _ _ _, refl)
 
 pub returns-then-left-lt-LONGEST : goal.returns-then-left-lt-LONGEST
 returns-then-left-lt-LONGEST c = left-short c.loop-done.invariant.0 c.if-left-lt-LONGEST.true
@@ -25,7 +22,7 @@ pub loop-done-preserved : goal.loop-done-preserved
 loop-done-preserved c =
     let l = c.loop-done.invariant.0 in
     let e = c.in-Ok.ensures in
-    (left_step l c.loop-done-test.true c.if-left-lt-LONGEST.false (stop-told _ e) (cycles-told _ e) (goes-told _ e refl), search rules)
+    (rw c.from-left.ensures (left_step l c.loop-done-test.true c.if-left-lt-LONGEST.false (stop-told _ e) (cycles-told _ e) (goes-told _ e refl)), search rules)
 
 pub returns : goal.returns
 returns c =

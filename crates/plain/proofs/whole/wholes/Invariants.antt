@@ -7,5 +7,5 @@ use Rattle.plain.proofs.whole.wholes.Given as goal
 
 abbrev pub invariant-loop-done : goal.invariant-loop-done
 invariant-loop-done l =
-    Left l.count l.budget (wholes l.count l.budget (going l.initial.registers l.flags l.a l.board l.initial.memory)) l.done l.left (going l.registers l.status l.here l.board l.memory)
+    Left l.count l.budget (wholes l.count l.budget (going l.initial.registers l.from.flags l.from.a l.from.board l.initial.memory)) l.done l.left (going l.registers l.status l.here l.from.board l.memory)
     × (length l.memory ≡ length l.initial.memory)

@@ -10,7 +10,7 @@ overflow_add-counts-then-may_skip c = record { fits = omega (arith, (came-within
 
 pub returns-then-may_skip : goal.returns-then-may_skip
 returns-then-may_skip c =
-    skip-whole _ _ c.may_skip.ensures c.if-may_skip.true (rw c.behind-a.ensures at c.wholes-came.ensures)
+    skip-whole _ _ c.may_skip.ensures c.if-may_skip.true (rw c.behind.ensures at c.wholes-came.ensures)
     (c.control_at-control.ensures _ _)
 
 pub returns : goal.returns

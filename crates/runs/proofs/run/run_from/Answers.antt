@@ -12,9 +12,6 @@ use Rattle.runs.proofs.run.run_from.Goals as goal
 pub loop-used-init : goal.loop-used-init
 loop-used-init c = (left-start _ _ c.requires.0 c.requires.1, refl)
 
-pub skip-far-requires : goal.skip-far-requires
-skip-far-requires c = let l = c.loop-used.invariant.0 in (omega (arith, l.room, l.left.sum), l.behind)
-
 pub overflow_add-used : goal.overflow_add-used
 overflow_add-used c = record { fits = omega (arith, (left-skip c.loop-used.invariant.0 c.skip-far.ensures).left.sum, c.requires.0) }
 
@@ -25,17 +22,8 @@ returns-in-Err c =
 pub cycle-at-requires : goal.cycle-at-requires
 cycle-at-requires c = let l = left-skip c.loop-used.invariant.0 c.skip-far.ensures in (omega (arith, l.room), omega (arith, l.room, l.behind))
 
-pub overflow_add-used-then-used-budget : goal.overflow_add-used-then-used-budget
-overflow_add-used-then-used-budget c = record { fits = omega (arith, c.if-used-budget.true, c.requires.0) }
-
-pub loop-used-smaller-then-used-budget : goal.loop-used-smaller-then-used-budget
-loop-used-smaller-then-used-budget c = omega (arith, c.if-used-budget.true)
-
 pub loop-used-preserved-then-used-budget : goal.loop-used-preserved-then-used-budget
 loop-used-preserved-then-used-budget c = (left_step (left-skip c.loop-used.invariant.0 c.skip-far.ensures) c.if-used-budget.true c.cycle-at.ensures (sym (c.in_default.ensures _)), c.cycle-at.auto.memory ∙ c.skip-far.auto.memory ∙ c.loop-used.invariant.1)
-
-pub loop-used-smaller : goal.loop-used-smaller
-loop-used-smaller c = omega (arith, c.if-used-budget.false, c.loop-used-test.true)
 
 pub loop-used-preserved : goal.loop-used-preserved
 loop-used-preserved c = (left-skip c.loop-used.invariant.0 c.skip-far.ensures, search rules)

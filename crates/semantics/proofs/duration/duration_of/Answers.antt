@@ -2,19 +2,6 @@ use Rattle.std.proofs.Common.{sym, ◌∙◌}
 use Rattle.semantics.proofs.WordDurations.{read-lasts, branch-lasts, multiply-lasts, other-lasts}
 use Rattle.semantics.proofs.duration.duration_of.Goals as goal
 
-pub returns-in-Processing : goal.returns-in-Processing
-returns-in-Processing c =
-    read-lasts _ (sym c.in-Processing.is ∙ c.read.ensures)
-    (c.processing_duration.ensures _)
-
-pub returns-in-Single : goal.returns-in-Single
-returns-in-Single c =
-    read-lasts _ (sym c.in-Single.is ∙ c.read.ensures)
-    (c.single_duration.ensures _)
-
-pub returns-in-Block : goal.returns-in-Block
-returns-in-Block c = read-lasts _ (sym c.in-Block.is ∙ c.read.ensures) (c.block_duration.ensures _)
-
 pub returns-in-Branch : goal.returns-in-Branch
 returns-in-Branch c = read-lasts _ (sym c.in-Branch.is ∙ c.read.ensures) (branch-lasts _ _ c.with_refills.ensures)
 

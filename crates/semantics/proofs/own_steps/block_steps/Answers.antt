@@ -7,9 +7,3 @@ overflow_add-result c = record { fits = omega (arith, c.count-n.ensures, named-l
 
 pub overflow_add-result-else-i : goal.overflow_add-result-else-i
 overflow_add-result-else-i c = record { fits = omega (arith, c.count-n.ensures, named-length c.args.i.list) }
-
-pub returns-then-i : goal.returns-then-i
-returns-then-i c = rw (c.if-i.true, c.count-n.ensures)
-
-pub returns-else-i : goal.returns-else-i
-returns-else-i c = rw (c.if-i.false, c.count-n.ensures)

@@ -8,6 +8,3 @@ room v m e = omega (arith, m-bounds v)
 
 pub overflow_add-result : goal.overflow_add-result
 overflow_add-result c = record { fits = room _ _ c.m_of.ensures }
-
-pub returns : goal.returns
-returns c = rw (c.m_of.ensures, c.register.ensures) (omega arith)

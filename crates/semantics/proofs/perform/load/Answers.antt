@@ -1,9 +1,5 @@
-use Rattle.semantics.proofs.Durations.{single-short}
 use Rattle.semantics.proofs.Results.{whole, load_done}
 use Rattle.semantics.proofs.perform.load.Goals as goal
-
-pub done-requires : goal.done-requires
-done-requires c = rw c.single_steps-steps.ensures (single-short c.args.i)
 
 pub returns : goal.returns
 returns c =

@@ -7,8 +7,8 @@ use Rattle.stops.proofs.stop.processing_stop.Goals as goal
 
 pub returns-in_err-processing_rule : goal.returns-in_err-processing_rule
 unfolding rule_broken moves_of stop_of moved_stop
-returns-in_err-processing_rule c mem = let h = c.in_err-processing_rule.ensures mem in grind (arith, common_steps, h)
+returns-in_err-processing_rule c s = let h = c.in_err-processing_rule.ensures s in grind (arith, common_steps, h)
 
 pub returns : goal.returns
 unfolding rule_broken moves_of stop_of moved_stop
-returns c mem = simp (sym (c.in_ok-processing_rule.ensures mem))
+returns c s = simp (sym (c.in_ok-processing_rule.ensures s))

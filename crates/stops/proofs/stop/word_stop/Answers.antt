@@ -1,10 +1,9 @@
 use Rattle.std.proofs.Common.{sym, ◌∙◌}
-use Rattle.memory.specs.Memory.{memory_of}
 use Rattle.stops.proofs.Joins.{read-stop}
 use Rattle.stops.proofs.stop.word_stop.Goals as goal
 
 pub returns-in-Processing : goal.returns-in-Processing
-returns-in-Processing c bytes = read-stop _ (sym c.in-Processing.is ∙ c.read.ensures) (c.processing_stop.ensures (memory_of _ bytes))
+returns-in-Processing c bytes = read-stop _ (sym c.in-Processing.is ∙ c.read.ensures) (c.processing_stop.ensures _)
 
 pub returns-in-Single : goal.returns-in-Single
 returns-in-Single c bytes = read-stop _ (sym c.in-Single.is ∙ c.read.ensures) (c.single_stop.ensures bytes)

@@ -10,6 +10,3 @@ pub loop-n-preserved : goal.loop-n-preserved
 loop-n-preserved c =
     rw (c.arrive-outcome.ensures, c.read_word.ensures, c.next-at.ensures)
     (sym (continued-step _ _ (out _ c.loop-n.outcome.flags c.loop-n.outcome.goes) _ _ _) ∙ rw c.in-Some.ensures.steps at c.loop-n.invariant)
-
-pub returns : goal.returns
-returns c = rw c.in-None.ensures.steps.0 at c.loop-n.invariant

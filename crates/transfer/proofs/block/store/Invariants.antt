@@ -7,5 +7,5 @@ use Rattle.transfer.proofs.block.store.Given as goal
 
 abbrev pub invariant-loop-n : goal.invariant-loop-n
 invariant-loop-n l =
-    (stores (named l.n-iterator.0) l.registers l.flags l.a12 l.at (memory_of l.board l.memory) ≡ stores (named l.list) l.registers l.flags l.a12 l.address (memory_of l.board l.initial.memory))
+    (stores (named l.n-iterator.0) l.registers l.r15.flags l.r15.pc l.at (memory_of l.board l.memory) ≡ stores (named l.list) l.registers l.r15.flags l.r15.pc l.address (memory_of l.board l.initial.memory))
     × (length l.memory ≡ length l.initial.memory)
