@@ -126,7 +126,8 @@ enum {
  * ADDRESS before the call that does the reading cycle. What is fetched stays as it was fetched: at a boundary IX and IR2
  * hold the word at A, IR1 the one at A+4, and they are executed as they stand, whatever memory holds by then; the word
  * at A+8 is fetched in the coming cycle. In steps 2 and up IX holds the word at A, IR2 that at A+4, IR1 that at A+8.
- * A host may change the array as well; a run refuses with 11 what no core can be in, and runs the rest as it stands.
+ * A host may change the array as well; a run or settle refuses with 11 what no core can be
+ * in, and goes on from the rest as it stands.
  *
  * Long runs. CYCLES goes up to 2^40, 38 hours at 8 MHz; a run that might pass it is refused with 13 and changes
  * nothing. To go on, at a boundary (slot_core_settle): add CYCLES and RETIRED to totals of your own, set both, and their high words, to 0,

@@ -39,7 +39,7 @@ use Rattle.steps.specs.declared.Latches.{Latches}
 use Rattle.steps.specs.Steps.{Own, own, last, still, first_step, later_step, load_later, store_later, load_step, block_load_later, store_step, block_store_later, multiply_later}
 use Rattle.cycle.specs.Machine.{Machine, lent}
 use Rattle.cycle.specs.Cycle.{first_due, later_of, own_of, cycle}
-use Rattle.pipeline.specs.Term3.{reach}
+use Rattle.runs.specs.Run.{reach}
 
 abbrev Keeps : List ℕ → ℕ → Memory → Own → Type 0
 Keeps g f mem o = (length o.registers ≡ length g) × (length o.memory.bytes ≡ length mem.bytes) × (f < 16 → o.step.flags < 16)

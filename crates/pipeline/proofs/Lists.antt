@@ -4,7 +4,7 @@ use Prim.Native.Nat.{ℕ, zero, suc, pred, ◌+◌, ◌-◌, ◌%◌, ◌≤◌,
 use mathlib.Core.Path.{◌≡◌, refl, sym, ap, subst, ◌∙◌}
 use mathlib.Core.List.{List}
 use mathlib.Core.Bool.{Bool, true, false, not, ◌||◌, ◌&&◌, false≢true}
-use mathlib.Core.Logic.{◌⊎◌, inl, inr, ⊎_elim}
+use mathlib.Core.Logic.{◌≢◌, ◌⊎◌, inl, inr, ⊎_elim}
 use native.Mathlib.Omega.{arith}
 use native.Mathlib.Decide.{dec_lt}
 use native.Mathlib.Nat.{eq-or-lt_of_le, le_of_suc-le-suc}
@@ -31,15 +31,18 @@ use Rattle.pipeline.specs.Calls.{start, run}
 use Rattle.plain.specs.Running as engines
 use Rattle.plain.specs.Running.{Ran, ran, one_more, unless}
 use Rattle.plain.proofs.Running as loops
-use Rattle.runs.specs.Run.{holding, engine, run_from}
-use Rattle.pipeline.specs.Term3.{fresh, plain_fresh, Begins, sums, Stops, Call, lend, call, Reply, reply, reply_of, Accepted, Refused, Calls, no_calls, accepted, refused, Answers, other_length, too_many, too_far, repeats, stops, spends, AllAnswer, none, more, Never, never_none, never_more}
-use Rattle.pipeline.specs.Term3.{reach, Greatest, Leaves, Further, Follows, Term3}
+use Rattle.runs.specs.Run.{holding, reach, engine, run_from}
+use Rattle.runs.specs.CyclesLeft.{cycles_left}
+use Rattle.pipeline.specs.Term3.{fresh, plain_fresh, Begins, sums, Stops, Distance, Call, running, settling, lent_to, lend, call, Reply, reply, reply_of, RunAccepted, Accepted, Refused, Calls, no_calls, accepted, refused}
+use Rattle.pipeline.specs.Term3.{Answers, other_length, too_many, too_far, repeats, stops, spends, boundary_too_far, settles, AllAnswer, none, more, Never, never_none, never_more}
+use Rattle.pipeline.specs.Term3.{Greatest, Leaves, Further, EndsSettled, at_last, later_on, Follows, Term3}
 use Rattle.runs.specs.Boundary.{boundary, lead}
 use Rattle.pipeline.proofs.Keeps.{reach-alike}
 use Rattle.runs.proofs.Flight.{Aloft, Flight}
 use Rattle.runs.proofs.PlainSteps.{duration-flight, Stop, stop-met}
 use Rattle.pipeline.proofs.Position.{Pos, advance, beginning, plain_beginning, started, sums-step, ranged}
 use Rattle.runs.proofs.PlainSteps.{boundary-stop}
+use Rattle.pipeline.proofs.Settled.{flight-left, settle-laws}
 
 reach-stop : (m : Machine) (t : ℕ) → (reach m t).control.stop ≡ m.control.stop
 unfolding reach cycle
@@ -100,15 +103,9 @@ is-stop q h = ⊎_elim (λ e. rw e) (λ r. go (eqb q 0) r) h
     go true r = refl
     go false r = rw (le-leb 21 q r.0, le-leb q 25 r.1)
 
--- every call is accepted or refused: what `Calls` asks of a list is only that accepted calls are lent the one memory
-pub accepted-or-refused : (n t : ℕ) (c : Call) → Accepted n t c ⊎ Refused n t c
-accepted-or-refused n t c = go (eqb (length c.memory) n) refl (dec_lt 1000000 c.budget) (dec_lt most_cycles (t + c.budget))
-  where
-    go : (b : Bool) → eqb (length c.memory) n ≡ b → Dec (1000000 < c.budget) → Dec (most_cycles < t + c.budget) → Accepted n t c ⊎ Refused n t c
-    go false e s f = inr (λ a. eqb-false _ _ e a.lent)
-    go true e (yes s) f = inr (λ a. omega (arith, a.small))
-    go true e (no s) (yes f) = inr (λ a. omega (arith, a.near))
-    go true e (no s) (no f) = inl (record { lent = eqb-true _ _ e; small = omega arith; near = omega arith })
+-- there is one distance
+one-distance : (p : plain.Machine) (t c d : ℕ) → Distance p t c → Distance p t d → c ≡ d
+one-distance p t c d x y = omega (arith, x.sum, y.sum, x.least y.k (omega (arith, y.sum)), y.least x.k (omega (arith, x.sum)))
 
 module _ (p : plain.Machine) (m₀ : Machine) (r₀ : p.plain.a < counters) (s₀ : p.plain.board.size ≤ most_bytes) where
   -- a run that used its budget, and one that found a stop
@@ -139,10 +136,10 @@ module _ (p : plain.Machine) (m₀ : Machine) (r₀ : p.plain.a < counters) (s�
       go (suc n) u f =
           absurd (let z : stop_found (reach m₀ t) ≡ 0 = no_stop (reach m₀ t) f.0.off in omega arith)
 
-  running : (b : ℕ) {t : ℕ} → Pos p m₀ r₀ s₀ t → Spent t b (run_from b (reach m₀ t)) ⊎ Halted t b (run_from b (reach m₀ t))
+  running-on : (b : ℕ) {t : ℕ} → Pos p m₀ r₀ s₀ t → Spent t b (run_from b (reach m₀ t)) ⊎ Halted t b (run_from b (reach m₀ t))
   unfolding engines.runs reach
-  running zero {t} c = inl (record { to = t; sum = omega arith; pos = c; is = refl })
-  running (suc b) {t} c = go (stop_found (reach m₀ t)) refl (λ e. running b (advance p m₀ r₀ s₀ c e))
+  running-on zero {t} c = inl (record { to = t; sum = omega arith; pos = c; is = refl })
+  running-on (suc b) {t} c = go (stop_found (reach m₀ t)) refl (λ e. running-on b (advance p m₀ r₀ s₀ c e))
     where
       go : (q : ℕ) → stop_found (reach m₀ t) ≡ q
           → (stop_found (reach m₀ t) ≡ 0 → Spent (suc t) b (run_from b (reach m₀ (suc t))) ⊎ Halted (suc t) b (run_from b (reach m₀ (suc t))))
@@ -256,8 +253,8 @@ module _ (p : plain.Machine) (m₀ : Machine) (r₀ : p.plain.a < counters) (s�
         phase-fine Refill2 e = refl
         phase-fine (Later k) e = step-fine k (due (reach m₀ t).control.pipe.ix (reach m₀ t).control.flags) e
 
-    ran_on : (c : Call) (t : ℕ) {r : Ran Machine} → Accepted n t c → Spent t c.budget r ⊎ Halted t c.budget r → Result c t 0 r
-    ran_on c t a (inl x) =
+    ran_on : (mem : List ℕ) (b t : ℕ) {r : Ran Machine} → RunAccepted n t mem b → Spent t b r ⊎ Halted t b r → Result (running mem b) t 0 r
+    ran_on mem b t a (inl x) =
         rw x.is (
           x.to,
           x.sum,
@@ -268,7 +265,7 @@ module _ (p : plain.Machine) (m₀ : Machine) (r₀ : p.plain.a < counters) (s�
             record { pos = x.pos; small = omega (arith, a.near, x.sum); stop = inl refl },
           ),
         )
-    ran_on c t a (inr x) =
+    ran_on mem b t a (inr x) =
         let z : Stops p x.to (suc x.q) = record { k = x.pos.k; does = x.pos.does; total = omega (arith, x.pos.total, x.at); stop = x.stop; real = λ e. omega arith } in
         let d : x.u ≡ x.to - t = omega (arith, x.sum) in
         rw (x.is, d) (
@@ -282,106 +279,75 @@ module _ (p : plain.Machine) (m₀ : Machine) (r₀ : p.plain.a < counters) (s�
           ),
         )
 
-    accept : (c : Call) (t q : ℕ) → Accepted n t c → Here t q → Result c t q (unless q (holding (reach m₀ t) q) (run_from c.budget (holding (reach m₀ t) q)))
-    accept c t zero a h = rw (holding-none (reach m₀ t) (reach-stop m₀ t ∙ no_stop)) (ran_on c t a (running c.budget h.pos))
-    accept c t (suc q) a h =
-        subst (Result c t (suc q)) (loops.ends_by (holding (reach m₀ t) (suc q)) _ refl (λ e. omega arith))
+    accept : (mem : List ℕ) (b t q : ℕ) → RunAccepted n t mem b → Here t q → Result (running mem b) t q (unless q (holding (reach m₀ t) q) (run_from b (holding (reach m₀ t) q)))
+    accept mem b t zero a h = rw (holding-none (reach m₀ t) (reach-stop m₀ t ∙ no_stop)) (ran_on mem b t a (running-on b h.pos))
+    accept mem b t (suc q) a h =
+        subst (Result (running mem b) t (suc q)) (loops.ends_by (holding (reach m₀ t) (suc q)) _ refl (λ e. omega arith))
         (t, omega arith, (suc q, repeats a (λ e. omega arith), refl, h))
 
     -- what a run refuses with, at total t
-    abbrev number : Call → ℕ → ℕ
-    number c t = pick (not (eqb (length c.memory) n)) 12 (pick (ltb 1000000 c.budget) 3 (pick (ltb most_cycles (t + c.budget)) 13 0))
+    abbrev number : List ℕ → ℕ → ℕ → ℕ
+    number mem b t = pick (not (eqb (length mem) n)) 12 (pick (ltb 1000000 b) 3 (pick (ltb most_cycles (t + b)) 13 0))
 
-    refuses : (c : Call) (t q : ℕ) → Here t q → refusal (length c.memory) c.budget (lend (holding (reach m₀ t) q) c.memory) ≡ number c t
+    refuses : (mem : List ℕ) (b t q : ℕ) → Here t q → refusal (length mem) b (lend (holding (reach m₀ t) q) mem) ≡ number mem b t
     unfolding refusal
-    refuses c t q h = rw (sound h c.memory, reach-size m₀ t ∙ same_length, reach-cycles m₀ t no-cycles)
+    refuses mem b t q h = rw (sound h mem, reach-size m₀ t ∙ same_length, reach-cycles m₀ t no-cycles)
 
-    -- a call is accepted, or refused with a number that it answers
-    abbrev Fate : Call → ℕ → ℕ → ℕ → Type 0
-    Fate c t q r = ((r ≡ 0) × Accepted n t c) ⊎ (Refused n t c × ((z : ℕ) × (r ≡ suc z) × Answers p n t q c (reply (suc z) 0) t q))
+    -- a run is accepted, or refused with a number that it answers
+    abbrev Fate : List ℕ → ℕ → ℕ → ℕ → ℕ → Type 0
+    Fate mem b t q r = ((r ≡ 0) × RunAccepted n t mem b) ⊎ ((RunAccepted n t mem b → ⊥) × ((z : ℕ) × (r ≡ suc z) × Answers p n t q (running mem b) (reply (suc z) 0) t q))
 
-    fate : (c : Call) (t q : ℕ) → Fate c t q (number c t)
-    fate c t q = by_length (eqb (length c.memory) n) refl
+    fate : (mem : List ℕ) (b t q : ℕ) → Fate mem b t q (number mem b t)
+    fate mem b t q = by_length (eqb (length mem) n) refl
       where
-        by_total : (b : Bool) → length c.memory ≡ n → c.budget ≤ 1000000 → ltb most_cycles (t + c.budget) ≡ b → Fate c t q (pick b 13 0)
-        by_total true l s e = let f : most_cycles < t + c.budget = ltb-true _ _ e in inr (λ a. omega (arith, a.near, f), (12, refl, too_far l s f))
+        by_total : (far : Bool) → length mem ≡ n → b ≤ 1000000 → ltb most_cycles (t + b) ≡ far → Fate mem b t q (pick far 13 0)
+        by_total true l s e = let f : most_cycles < t + b = ltb-true _ _ e in inr (λ a. omega (arith, a.near, f), (12, refl, too_far l s f))
         by_total false l s e = inl (refl, record { lent = l; small = s; near = ltb-false _ _ e })
 
-        by-budget : (b : Bool) → length c.memory ≡ n → ltb 1000000 c.budget ≡ b → Fate c t q (pick b 3 (pick (ltb most_cycles (t + c.budget)) 13 0))
-        by-budget true l e = let f : 1000000 < c.budget = ltb-true _ _ e in inr (λ a. omega (arith, a.small, f), (2, refl, too_many l f))
-        by-budget false l e = by_total (ltb most_cycles (t + c.budget)) l (ltb-false _ _ e) refl
+        by-budget : (many : Bool) → length mem ≡ n → ltb 1000000 b ≡ many → Fate mem b t q (pick many 3 (pick (ltb most_cycles (t + b)) 13 0))
+        by-budget true l e = let f : 1000000 < b = ltb-true _ _ e in inr (λ a. omega (arith, a.small, f), (2, refl, too_many l f))
+        by-budget false l e = by_total (ltb most_cycles (t + b)) l (ltb-false _ _ e) refl
 
-        by_length : (b : Bool) → eqb (length c.memory) n ≡ b
-            → Fate c t q (pick (not b) 12 (pick (ltb 1000000 c.budget) 3 (pick (ltb most_cycles (t + c.budget)) 13 0)))
-        by_length true e = by-budget (ltb 1000000 c.budget) (eqb-true _ _ e) refl
+        by_length : (same : Bool) → eqb (length mem) n ≡ same → Fate mem b t q (pick (not same) 12 (pick (ltb 1000000 b) 3 (pick (ltb most_cycles (t + b)) 13 0)))
+        by_length true e = by-budget (ltb 1000000 b) (eqb-true _ _ e) refl
         by_length false e = inr (λ a. eqb-false _ _ e a.lent, (11, refl, other_length (eqb-false _ _ e)))
 
     -- the core after t cycles, with its memory
     abbrev At : Machine → ℕ → ℕ → Type 0
     At m t q = (m ≡ holding (reach m₀ t) q) × Here t q
 
-    -- an accepted call, lent the memory
-    runs : (c : Call) (t q : ℕ) → number c t ≡ 0 → c.memory ≡ (reach m₀ t).memory → Here t q
-        → unless q (holding (reach m₀ t) q) (run_from c.budget (holding (reach m₀ t) q)) ≡ call c (holding (reach m₀ t) q)
+    -- an accepted run, lent the memory
+    runs : (mem : List ℕ) (b t q : ℕ) → number mem b t ≡ 0 → mem ≡ (reach m₀ t).memory → Here t q
+        → unless q (holding (reach m₀ t) q) (run_from b (holding (reach m₀ t) q)) ≡ call (running mem b) (holding (reach m₀ t) q)
     unfolding run
-    runs c t q z e h = rw (refuses c t q h, z, e)
+    runs mem b t q z e h = rw (refuses mem b t q h, z, e)
 
-    one-accepted : (c : Call) (t q : ℕ) {m : Machine} → At m t q → Accepted n t c → c.memory ≡ m.memory → Reaches c t q (call c m) (t + (call c m).used)
-    one-accepted c t q (i, h) a =
-        subst (λ m. c.memory ≡ m.memory → Reaches c t q (call c m) (t + (call c m).used)) (sym i)
+    run-accepted : (mem : List ℕ) (b t q : ℕ) {m : Machine} → At m t q → RunAccepted n t mem b → mem ≡ m.memory
+        → Reaches (running mem b) t q (call (running mem b) m) (t + (call (running mem b) m).used)
+    run-accepted mem b t q (i, h) a =
+        let c = running mem b in
+        subst (λ m. mem ≡ m.memory → Reaches c t q (call c m) (t + (call c m).used)) (sym i)
         (λ e. ⊎_elim
         (λ f.
-        let (t', s, r) = subst (Result c t q) (runs c t q f.0 e h) (accept c t q a h) in
+        let (t', s, r) = subst (Result c t q) (runs mem b t q f.0 e h) (accept mem b t q a h) in
         subst (Reaches c t q (call c (holding (reach m₀ t) q))) s r)
         (λ f. absurd (f.0 a))
-        (fate c t q))
+        (fate mem b t q))
 
     -- a refused call, lent any bytes
     record Back (c : Call) (t q : ℕ) (m : Machine) : Type 0 where
       z : ℕ
       answers : Answers p n t q c (reply (suc z) 0) t q
-      is : call c m ≡ ran (suc z) 0 (lend m c.memory)
+      is : call c m ≡ ran (suc z) 0 (lend m (lent_to c))
 
-    one-refused : (c : Call) (t q : ℕ) {m : Machine} → At m t q → Refused n t c → Back c t q m
+    run-refused : (mem : List ℕ) (b t q : ℕ) {m : Machine} → At m t q → (RunAccepted n t mem b → ⊥) → Back (running mem b) t q m
     unfolding run
-    one-refused c t q (i, h) x =
-        subst (Back c t q) (sym i)
+    run-refused mem b t q (i, h) x =
+        subst (Back (running mem b) t q) (sym i)
         (⊎_elim
         (λ f. absurd (x f.1))
-        (λ f. let (z, e, a) = f.1 in record { z = z; answers = a; is = rw (refuses c t q h, e, ne_eqb (suc z) 0 (λ y. omega arith)) })
-        (fate c t q))
-
-    all : {m m' : Machine} {t t' : ℕ} {cs : List Call} {rs : List Reply} (q : ℕ) → At m t q → Calls n m t cs rs m' t'
-        → (q' : ℕ) × AllAnswer p n t q cs rs t' q' × At m' t' q'
-    all q h no_calls = (q, none, h)
-    all {m} {m'} {t} {t'} q h (accepted {c = c} a e k) =
-        let (q₁, x, i, h₁) = one-accepted c t q h a e in
-        let (q₂, y, h₂) = all q₁ (i, h₁) k in
-        (q₂, more x y, h₂)
-    all {m} {m'} {t} {t'} q h (refused {c = c} x k) =
-        let b = one-refused c t q h x in
-        let (q₂, y, h₂) = all q (ap (λ (r : Ran Machine). lend r.machine m.memory) b.is ∙ h.0, h.1) k in
-        (q₂, more (subst (λ r. Answers p n t q c (reply_of r) t q) (sym b.is) b.answers) y, h₂)
-
-    further : {m : Machine} {t q : ℕ} → At m t q → (c : Call) → Further n t m c
-    further {m} {t} {q} h c = record { kept = λ x. ap (λ (r : Ran Machine). r.machine) (one-refused c t q h x).is; rises = rises (length c.memory) c.budget (lend m c.memory) }
-
-    -- 11 doesn't come up
-    answers-never : {t q t' q' : ℕ} {c : Call} {r : Reply} → Answers p n t q c r t' q' → Stop q → (r.answer ≡ 11 → ⊥) × Stop q'
-    answers-never (other_length l) s = ((λ e. omega arith), s)
-    answers-never (too_many l b) s = ((λ e. omega arith), s)
-    answers-never (too_far l b f) s = ((λ e. omega arith), s)
-    answers-never (repeats a z) s = ((λ e. ⊎_elim (λ x. omega arith) (λ x. omega (arith, x.0)) s), s)
-    answers-never (stops a z {t' = t'} {q' = q'} x g l) s =
-        let m : Stop q' = subst Stop x.stop (stop-met (trace p x.k)) in
-        ((λ e. ⊎_elim (λ y. omega arith) (λ y. omega (arith, y.0)) m), m)
-    answers-never (spends a z e l) s = ((λ e. omega arith), inl refl)
-
-    all-never : {t q t' q' : ℕ} {cs : List Call} {rs : List Reply} → AllAnswer p n t q cs rs t' q' → Stop q → Never 11 rs
-    all-never none s = never_none
-    all-never (more a b) s = let x = answers-never a s in never_more x.0 (all-never b x.1)
-
-    -- ---- what is left
+        (λ f. let (z, e, a) = f.1 in record { z = z; answers = a; is = rw (refuses mem b t q h, e, ne_eqb (suc z) 0 (λ y. omega arith)) })
+        (fate mem b t q))
 
     -- sums below that of k are below t, where t is past the one before k
     before : {t : ℕ} (c : Pos p m₀ r₀ s₀ t) {j : ℕ} → j < c.k → sums p j < t
@@ -397,6 +363,90 @@ module _ (p : plain.Machine) (m₀ : Machine) (r₀ : p.plain.a < counters) (s�
         go : Dec (j < c.k) → sums p c.k ≤ sums p j
         go (yes l) = absurd (omega (arith, before c l))
         go (no l) = sums-le j (omega arith)
+
+    distance-here : {t q : ℕ} (h : Here t q) → Distance p t h.pos.n
+    distance-here h = let c = h.pos in record { k = c.k; does = c.does; sum = c.total; least = least c }
+
+    -- ---- settle is the run whose budget is the distance
+
+    left_here : {t q : ℕ} (h : Here t q) (mem : List ℕ) → cycles_left (lend (holding (reach m₀ t) q) mem) ≡ h.pos.n
+    unfolding cycles_left boundary
+    left_here {t} h mem = let c = h.pos in flight-left c.n (pred c.k) c.u (reach m₀ t) (boundary (trace p c.k) c.k (sums p c.k)) c.sound refl c.flying
+
+    settle-runs : (mem : List ℕ) (t q : ℕ) {m : Machine} (a : At m t q) → call (settling mem) m ≡ call (running mem a.1.pos.n) m
+    settle-runs mem t q {m} (i, h) =
+        settle-laws.budget (length mem) (lend m mem)
+        ∙ ap (λ b. run (length mem) b (lend m mem)) (ap (λ (x : Machine). cycles_left (lend x mem)) i ∙ left_here h mem)
+
+    -- where a stop was answered the core is on a boundary, and no stop lies between t and the next
+    as-settle : {mem : List ℕ} {t q d t' q' : ℕ} {r : Reply} → Distance p t d → d ≤ 19 → (q ≢ 0 → d ≡ 0) → Answers p n t q (running mem d) r t' q' → Answers p n t q (settling mem) r t' q'
+    as-settle x b z (other_length l) = other_length l
+    as-settle x b z (too_many l s) = absurd (omega arith)
+    as-settle x b z (too_far l s f) = boundary_too_far l x f
+    as-settle {mem = mem} {t = t} {q = q} x b z (repeats a y) =
+        let e = z y in
+        let o : t + 0 ≡ t = omega arith in
+        subst (λ u. Answers p n t q (settling mem) (reply q 0) u q) o (settles (record { lent = a.lent; distance = subst (Distance p t) e x; near = omega (arith, a.near) }))
+    as-settle x b z (stops a y s l g) = absurd (omega (arith, s.total, x.sum, x.least s.k (omega (arith, s.total))))
+    as-settle {t = t} {d = d} x b z (spends a y e f) = rw (y, e) (settles (record { lent = a.lent; distance = x; near = a.near }))
+
+    off-stop : {t q : ℕ} (h : Here t q) → q ≢ 0 → h.pos.n ≡ 0
+    off-stop h y = ⊎_elim (λ e. absurd (y e)) (λ e. e.0) h.stop
+
+    settles-here : (mem : List ℕ) {t q t' q' : ℕ} {r : Reply} (h : Here t q) → Answers p n t q (running mem h.pos.n) r t' q' → Answers p n t q (settling mem) r t' q'
+    settles-here mem h = as-settle (distance-here h) h.pos.bound (off-stop h)
+
+    one-accepted : (c : Call) (t q : ℕ) {m : Machine} → At m t q → Accepted p n t c → lent_to c ≡ m.memory → Reaches c t q (call c m) (t + (call c m).used)
+    one-accepted (running mem b) t q a x e = run-accepted mem b t q a x e
+    one-accepted (settling mem) t q {m} a (d, x) e =
+        let d₁ = a.1.pos.n in
+        let same : d ≡ d₁ = one-distance p t d d₁ x.distance (distance-here a.1) in
+        let (q', y, i, h) = run-accepted mem d₁ t q a (record { lent = x.lent; small = omega (arith, a.1.pos.bound); near = omega (arith, x.near) }) e in
+        subst (λ r. Reaches (settling mem) t q r (t + r.used)) (sym (settle-runs mem t q a)) (q', settles-here mem a.1 y, i, h)
+
+    one-refused : (c : Call) (t q : ℕ) {m : Machine} → At m t q → Refused p n t c → Back c t q m
+    one-refused (running mem b) t q a x = run-refused mem b t q a x
+    one-refused (settling mem) t q a x =
+        let b = run-refused mem a.1.pos.n t q a (λ y. x (a.1.pos.n, record { lent = y.lent; distance = distance-here a.1; near = y.near })) in
+        record { z = b.z; answers = settles-here mem a.1 b.answers; is = settle-runs mem t q a ∙ b.is }
+
+    all : {m m' : Machine} {t t' : ℕ} {cs : List Call} {rs : List Reply} (q : ℕ) → At m t q → Calls p n m t cs rs m' t'
+        → (q' : ℕ) × AllAnswer p n t q cs rs t' q' × At m' t' q'
+    all q h no_calls = (q, none, h)
+    all {m} {m'} {t} {t'} q h (accepted {c = c} a e k) =
+        let (q₁, x, i, h₁) = one-accepted c t q h a e in
+        let (q₂, y, h₂) = all q₁ (i, h₁) k in
+        (q₂, more x y, h₂)
+    all {m} {m'} {t} {t'} q h (refused {c = c} x k) =
+        let b = one-refused c t q h x in
+        let (q₂, y, h₂) = all q (ap (λ (r : Ran Machine). lend r.machine m.memory) b.is ∙ h.0, h.1) k in
+        (q₂, more (subst (λ r. Answers p n t q c (reply_of r) t q) (sym b.is) b.answers) y, h₂)
+
+    further : {m : Machine} {t q : ℕ} → At m t q → (c : Call) → Further p n t m c
+    further {m} {t} {q} h c = record { kept = λ x. ap (λ (r : Ran Machine). r.machine) (one-refused c t q h x).is; rises = called-rises c }
+      where
+        called-rises : (c : Call) → Rises m (call c m)
+        called-rises (running mem b) = rises (length mem) b (lend m mem)
+        called-rises (settling mem) = rw (settle-laws.budget (length mem) (lend m mem)) (rises (length mem) (cycles_left (lend m mem)) (lend m mem))
+
+    -- 11 doesn't come up
+    answers-never : {t q t' q' : ℕ} {c : Call} {r : Reply} → Answers p n t q c r t' q' → Stop q → (r.answer ≡ 11 → ⊥) × Stop q'
+    answers-never (other_length l) s = ((λ e. omega arith), s)
+    answers-never (too_many l b) s = ((λ e. omega arith), s)
+    answers-never (too_far l b f) s = ((λ e. omega arith), s)
+    answers-never (repeats a z) s = ((λ e. ⊎_elim (λ x. omega arith) (λ x. omega (arith, x.0)) s), s)
+    answers-never (stops a z {t' = t'} {q' = q'} x g l) s =
+        let m : Stop q' = subst Stop x.stop (stop-met (trace p x.k)) in
+        ((λ e. ⊎_elim (λ y. omega arith) (λ y. omega (arith, y.0)) m), m)
+    answers-never (spends a z e l) s = ((λ e. omega arith), inl refl)
+    answers-never (boundary_too_far l x f) s = ((λ e. omega arith), s)
+    answers-never (settles a) s = ((λ e. ⊎_elim (λ x. omega arith) (λ x. omega (arith, x.0)) s), s)
+
+    all-never : {t q t' q' : ℕ} {cs : List Call} {rs : List Reply} → AllAnswer p n t q cs rs t' q' → Stop q → Never 11 rs
+    all-never none s = never_none
+    all-never (more a b) s = let x = answers-never a s in never_more x.0 (all-never b x.1)
+
+    -- ---- what is left
 
     boundary-retired : (m : plain.Machine) (k t : ℕ) → (boundary m k t).control.counts.retired ≡ k
     unfolding boundary
@@ -450,7 +500,7 @@ module _ (p : plain.Machine) (m₀ : Machine) (r₀ : p.plain.a < counters) (s�
       stop = refl;
       retired = greatest h.pos;
       counted = counted h.pos ∙ ap (λ x. durations p (reach m₀ t).control.counts.retired + x) (sym (lead-held (reach m₀ t) q));
-      distance = (h.pos.n, record { k = h.pos.k; does = h.pos.does; sum = h.pos.total; least = least h.pos; bound = h.pos.bound });
+      distance = (h.pos.n, distance-here h, h.pos.bound);
       there = λ k d e. ⊎_elim
           (λ v. let i : h.pos.k ≡ k = sums-inj h.pos.does d (omega (arith, v.1)) in ap (λ s. holding s q) (v.2 ∙ ap (λ j. boundary (trace p j) j t) i))
           (λ v. absurd (omega (arith, v.0, h.pos.total, least h.pos k (omega arith))))
@@ -458,8 +508,41 @@ module _ (p : plain.Machine) (m₀ : Machine) (r₀ : p.plain.a < counters) (s�
       only = λ e. ⊎_elim (λ v. (h.pos.k, h.pos.does, sym v.1)) (λ v. absurd (off-step1 (reach m₀ t).control.phase v.1.off e)) (view h.pos);
     }
 
-    left : {m : Machine} {t q : ℕ} → At m t q → Leaves p m₀ m t q
-    left {m} {t} {q} h = subst (λ x. Leaves p m₀ x t q) (sym h.0) (leaves h.1)
+    distance-left : {m : Machine} {t q : ℕ} → At m t q → Distance p t (cycles_left m)
+    distance-left {m} {t} (i, h) = subst (Distance p t) (sym (ap cycles_left i ∙ left_here h (reach m₀ t).memory)) (distance-here h)
+
+    -- a list that ends with an accepted settle ends with a sum
+    ends-settled : {t q t' q' : ℕ} {cs : List Call} {rs : List Reply} → AllAnswer p n t q cs rs t' q' → EndsSettled cs rs → (k : ℕ) × Does p k × (sums p k ≡ t')
+    ends-settled none e = elim e [ ]
+    ends-settled (more (other_length l) none) (at_last x y) = absurd (x refl)
+    ends-settled (more (boundary_too_far l d f) none) (at_last x y) = absurd (y refl)
+    ends-settled (more (settles a) none) (at_last x y) = let d = a.distance in (d.k, d.does, sym d.sum)
+    ends-settled (more a b) (later_on e) = ends-settled b e
+
+    settled-there : {m : Machine} {t q : ℕ} → Leaves p m₀ m t q → (k : ℕ) × Does p k × (sums p k ≡ t) → m.control.phase ≡ Step1
+    unfolding boundary
+    settled-there l (k, d, e) = ap (λ (x : Machine). x.control.phase) (l.there k d e)
+
+    left-behind : {m : Machine} {t q : ℕ} → At m t q → Leaves p m₀ m t q
+    left-behind {m} {t} {q} h = subst (λ x. Leaves p m₀ x t q) (sym h.0) (leaves h.1)
+
+-- ---- which lists there are
+
+-- every call is accepted or refused: what `Calls` asks of a list is only that accepted calls are lent the one memory
+pub accepted-or-refused : (p : plain.Machine) (n t d : ℕ) → Distance p t d → (c : Call) → Accepted p n t c ⊎ Refused p n t c
+accepted-or-refused p n t d x (running mem budget) = go (eqb (length mem) n) refl (dec_lt 1000000 budget) (dec_lt most_cycles (t + budget))
+  where
+    go : (b : Bool) → eqb (length mem) n ≡ b → Dec (1000000 < budget) → Dec (most_cycles < t + budget) → Accepted p n t (running mem budget) ⊎ Refused p n t (running mem budget)
+    go false e s f = inr (λ a. eqb-false _ _ e a.lent)
+    go true e (yes s) f = inr (λ a. omega (arith, a.small))
+    go true e (no s) (yes f) = inr (λ a. omega (arith, a.near))
+    go true e (no s) (no f) = inl (record { lent = eqb-true _ _ e; small = omega arith; near = omega arith })
+accepted-or-refused p n t d x (settling mem) = go (eqb (length mem) n) refl (dec_lt most_cycles (t + d))
+  where
+    go : (b : Bool) → eqb (length mem) n ≡ b → Dec (most_cycles < t + d) → Accepted p n t (settling mem) ⊎ Refused p n t (settling mem)
+    go false e f = inr (λ a. eqb-false _ _ e a.1.lent)
+    go true e (yes f) = inr (λ a. omega (arith, a.1.near, one-distance p t a.0 d a.1.distance x))
+    go true e (no f) = inl (d, record { lent = eqb-true _ _ e; distance = x; near = omega arith })
 
 -- ---- a start
 
@@ -503,7 +586,7 @@ module _ (g : List ℕ) (flags entry : ℕ) (mem : List ℕ) where
   }
 
   abbrev Lists : plain.Machine → Machine → Type 0
-  Lists p m₀ = (cs : List Call) (rs : List Reply) (m : Machine) (t : ℕ) → Calls (length mem) m₀ 0 cs rs m t → Follows p m₀ (length mem) cs rs m t
+  Lists p m₀ = (cs : List Call) (rs : List Reply) (m : Machine) (t : ℕ) → Calls p (length mem) m₀ 0 cs rs m t → Follows p m₀ (length mem) cs rs m t
 
   from-beginning : (start g flags entry mem).answer ≡ 0 → Lists (plain_beginning g flags entry mem) (beginning g flags entry mem)
   unfolding start reach
@@ -519,7 +602,9 @@ module _ (g : List ℕ) (flags entry : ℕ) (mem : List ℕ) where
         stop = q;
         answers = answers;
         never = all-never p m₀ r s (length mem) l refl refl refl answers (inl refl);
-        leaves = left p m₀ r s (length mem) l refl refl refl h;
+        leaves = left-behind p m₀ r s (length mem) l refl refl refl h;
+        distance = distance-left p m₀ r s (length mem) l refl refl refl h;
+        on_boundary = λ x. settled-there p m₀ r s (length mem) l refl refl refl (left-behind p m₀ r s (length mem) l refl refl refl h) (ends-settled p m₀ r s (length mem) l refl refl refl answers x);
         further = further p m₀ r s (length mem) l refl refl refl h;
       }
 

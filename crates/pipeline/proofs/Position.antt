@@ -15,7 +15,8 @@ use Rattle.cycle.specs.Machine.{Machine, machine}
 use Rattle.cycle.specs.Cycle.{cycle, own_of}
 use Rattle.cycle.specs.StopFound.{stop_found}
 use Rattle.cycle.specs.Fresh.{fresh_control}
-use Rattle.pipeline.specs.Term3.{sums, reach}
+use Rattle.runs.specs.Run.{reach}
+use Rattle.pipeline.specs.Term3.{sums}
 use Rattle.runs.specs.Boundary.{boundary, lead}
 use Rattle.runs.proofs.Flight.{Flight, climb, climb-add, turn44}
 use Rattle.runs.proofs.PlainSteps.{boundary-stop, flight, duration-flight, flight-short, instruction, step_range, step-board}

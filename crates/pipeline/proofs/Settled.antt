@@ -28,13 +28,12 @@ use Rattle.cycle.proofs.StopFound.{no_stop}
 use Rattle.stops.specs.Stops.{skipped, executes, due}
 use Rattle.refusals.specs.Numbers.{bad_step, bad_phase, bad, refusal}
 use Rattle.refusals.proofs.Refusals.{good, passed}
-use Rattle.runs.specs.Run.{run_from}
+use Rattle.runs.specs.Run.{reach, run_from}
 use Rattle.runs.specs.CyclesLeft.{left_in, cycles_left, InStep}
 use Rattle.runs.proofs.BoundaryRuns.{run_on}
 use Rattle.runs.proofs.Flight.{Flight}
-use Rattle.pipeline.specs.Calls.{run}
-use Rattle.pipeline.specs.Term3.{reach}
-use Rattle.pipeline.specs.Settle.{settle_refusal, settled, settle, Settles}
+use Rattle.pipeline.specs.Calls.{run, settle_refusal, settled, settle}
+use Rattle.pipeline.specs.Settle.{Settles}
 use Rattle.runs.proofs.Instruction.{own-steps}
 use Rattle.runs.proofs.Countdown.{countdown}
 use Rattle.pipeline.proofs.Sound.{to-mid, Sound, cycle-sound}

@@ -1,4 +1,4 @@
 pub mod Calls
-pub mod Term3
 pub mod Settle
+pub mod Term3
 pub mod Marked

@@ -2,8 +2,7 @@
 #![tactic(auto)]
 
 ghost use Rattle.std.specs.Prelude.{◌≡◌, length};
-ghost use Rattle.pipeline.specs.Calls.{zeroed, seen, start, run};
-ghost use Rattle.pipeline.specs.Settle.{settle};
+ghost use Rattle.pipeline.specs.Calls.{zeroed, seen, start, run, settle};
 ghost use Rattle.plain.specs.Told.{started_as, ran_as};
 
 use cycle::Control;

@@ -5,6 +5,9 @@ ghost use Rattle.std.specs.Prelude.{◌≡◌};
 ghost use Rattle.datapath.specs.Counter.{ahead};
 ghost use Rattle.registers.specs.Registers.{register, put, out, arrives};
 
+use datapath::counter::{R15, ahead};
+use memory::Board;
+
 // What an instruction finds besides the registers and the lent bytes: the flags, its own address, and the board.
 #[derive(Clone, Copy)]
 pub struct Context {
@@ -31,9 +34,6 @@ pub struct Outcome {
     pub flags: u32,
     pub goes: Option<u32>,
 }
-
-use datapath::counter::{R15, ahead};
-use memory::Board;
 
 #[tactic(auto, unfolding(crate::specs::Registers::register))]
 pub fn register(registers: &[u32; 15], n: u32, r15: u32) -> u32

@@ -9,7 +9,7 @@ use Rattle.plain.specs.Machine as plain
 use Rattle.plain.specs.Numbers.{start_answer}
 use Rattle.pipeline.specs.Calls.{start}
 use Rattle.pipeline.specs.Marked.{reported, Report}
-use Rattle.pipeline.specs.Term3.{fresh, Call, call, Reply, reply_of, Calls, no_calls, accepted, Answers, other_length, too_many, too_far, repeats, stops, spends, AllAnswer, none, more}
+use Rattle.pipeline.specs.Term3.{fresh, plain_fresh, running, call, Reply, reply_of, Calls, no_calls, accepted, Answers, other_length, too_many, too_far, repeats, stops, spends, AllAnswer, none, more}
 use Rattle.pipeline.proofs.Lists.{term3}
 use Rattle.pipeline.proofs.Marked as values
 use Rattle.report.specs.Lines.{register_line, register_lines}
@@ -29,7 +29,7 @@ told = refl
 -- ---- the budget, by term 3 on a list of one call
 
 -- a first call that is answered 0 comes to a total of its budget
-first : {p : plain.Machine} {n t q : ℕ} {c : Call} {r : Reply} → Answers p n 0 0 c r t q → r.answer ≡ 0 → t ≡ c.budget
+first : {p : plain.Machine} {n t q b : ℕ} {mem : List ℕ} {r : Reply} → Answers p n 0 0 (running mem b) r t q → r.answer ≡ 0 → t ≡ b
 first (other_length l) e = absurd (omega arith)
 first (too_many l b) e = absurd (omega arith)
 first (too_far l b f) e = absurd (omega arith)
@@ -37,15 +37,15 @@ first (repeats a z) e = absurd (z refl)
 first (stops a z s l b) e = absurd (s.real e)
 first (spends a z s b) e = omega (arith, s)
 
-one : {p : plain.Machine} {n t q : ℕ} {c : Call} {r : Reply} → AllAnswer p n 0 0 (c ∷ []) (r ∷ []) t q → r.answer ≡ 0 → t ≡ c.budget
+one : {p : plain.Machine} {n t q b : ℕ} {mem : List ℕ} {r : Reply} → AllAnswer p n 0 0 (running mem b ∷ []) (r ∷ []) t q → r.answer ≡ 0 → t ≡ b
 one (more a none) e = first a e
 
 spent : (image : List ℕ) → (begun image).answer ≡ 0 → (finished image).answer ≡ 0 → (finished image).machine.control.counts.cycles ≡ 64
 unfolding begun finished fresh
 spent image accepts e =
-    let c : Call = record { memory = image; budget = 64 } in
+    let c = running image 64 in
     let m = fresh (replicate 15 0) 0 0 image in
-    let calls : Calls (length image) m 0 (c ∷ []) (reply_of (call c m) ∷ []) (call c m).machine (0 + (call c m).used) =
+    let calls : Calls (plain_fresh (replicate 15 0) 0 0 image) (length image) m 0 (c ∷ []) (reply_of (call c m) ∷ []) (call c m).machine (0 + (call c m).used) =
     accepted {t = 0} {c = c} (record { lent = refl; small = omega arith; near = omega arith }) refl no_calls in
     let f = term3.lists (replicate 15 0) 0 0 image accepts (c ∷ []) (reply_of (call c m) ∷ []) (call c m).machine (0 + (call c m).used) calls in
     f.leaves.cycles ∙ one f.answers e

@@ -1,5 +1,5 @@
--- Cycles until the budget is spent or a stop is found.
-use Rattle.std.specs.Prelude.{ℕ}
+-- Cycles, and a run: cycles until the budget is spent or a stop is found.
+use Rattle.std.specs.Prelude.{ℕ, zero, suc}
 use Rattle.plain.specs.Running.{Ran, Engine, runs}
 use Rattle.cycle.specs.Machine.{Machine, machine}
 use Rattle.cycle.specs.Cycle.{cycle}
@@ -22,6 +22,11 @@ holding m stop =
 -- a stop is found before the step 1 that it stops, and held
 abbrev pub engine : Engine Machine
 engine = record { finds = stop_found; next = cycle; stopped = holding }
+
+-- the core after t cycles
+unfoldable pub reach : Machine → ℕ → Machine
+reach m zero = m
+reach m (suc t) = cycle (reach m t)
 
 -- so many cycles, or fewer and a stop, which takes none
 abbrev pub run_from : ℕ → Machine → Ran Machine

@@ -20,7 +20,7 @@ use Rattle.plain_arrays.specs.PlainArray as plain_array
 use Rattle.plain_arrays.specs.Places.{plain_place, plain_length}
 use Rattle.plain_arrays.proofs.Places as plain_layout
 use Rattle.slot.specs.Calls.{called, refused, core_called, core_machine, refusal_of, core_run, plain_run}
-use Rattle.slot.specs.Refusals.{CoreRefusals, PlainRefusals}
+use Rattle.slot.specs.Refusals.{RunRefusals, PlainRefusals}
 use Rattle.slot.proofs.Refusing.{core-number, core_accepted, plain-number, plain-accepted}
 use Rattle.slot.proofs.Calling.{handed-back, left, array-refused, array-accepted}
 
@@ -77,7 +77,7 @@ module _ (words mem : List ℕ) (n : ℕ) where
   no_core : length mem ≡ length_in words → core_array.stands_for_core words ≡ false → core_run words mem n ≡ refused 11 words mem
   no_core l s = sym (array-refused words mem n (rw (eq-eqb (length mem) (length_in words) l, s)) (λ z. omega arith))
 
-  pub core-refusals : CoreRefusals words mem n
+  pub core-refusals : RunRefusals words mem n
   core-refusals = record {
     other_length = other_length;
     no_core = no_core;

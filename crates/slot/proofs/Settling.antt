@@ -10,12 +10,11 @@ use Rattle.plain.specs.Running.{Ran}
 use Rattle.cycle.specs.Machine as pipelined
 use Rattle.runs.specs.CyclesLeft.{cycles_left}
 use Rattle.pipeline.specs.declared.Core.{Core}
-use Rattle.pipeline.specs.Calls as calls
-use Rattle.pipeline.specs.Settle as pipeline
+use Rattle.pipeline.specs.Calls as pipeline
 use Rattle.pipeline.proofs.Settled.{same-refusal, settle-laws}
 use Rattle.core_arrays.specs.CoreArray as core_array
-use Rattle.slot.specs.Calls.{Called, refused, unless_refused, core_called, core_machine, refusal_of, core_run}
-use Rattle.slot.specs.Settle.{core_settle, SettleRefusals}
+use Rattle.slot.specs.Calls.{Called, refused, unless_refused, core_called, core_machine, refusal_of, core_run, core_settle}
+use Rattle.slot.specs.Refusals.{SettleRefusals}
 use Rattle.slot.proofs.Refusals.{core-refusals, core-packed}
 
 module _ (words mem : List ℕ) where
@@ -25,7 +24,7 @@ module _ (words mem : List ℕ) where
   abbrev budget : ℕ
   budget = cycles_left settling
 
-  its-run : pipeline.settle (length mem) settling ≡ calls.run (length mem) budget settling
+  its-run : pipeline.settle (length mem) settling ≡ pipeline.run (length mem) budget settling
   its-run = settle-laws.budget (length mem) settling
 
   settle-runs : core_settle words mem ≡ core_run words mem budget
@@ -34,8 +33,8 @@ module _ (words mem : List ℕ) where
       ap (λ (r : Ran pipelined.Machine). pick (eqb (refusal_of words (length mem)) 0) (unless_refused words mem (core_called r)) (refused (refusal_of words (length mem)) words mem)) its-run
 
   -- from the core that was unpacked, and the run by its cycles left
-  pub settled : {c : Core} {n : ℕ} {r : Called} → c ≡ core_array.unpacked words → n ≡ cycles_left (core_machine c mem) → r ≡ core_run words mem n → r ≡ core_settle words mem
-  settled e h q = q ∙ ap (core_run words mem) (h ∙ ap (λ (k : Core). cycles_left (core_machine k mem)) e) ∙ sym settle-runs
+  pub by_its_run : {c : Core} {n : ℕ} {r : Called} → c ≡ core_array.unpacked words → n ≡ cycles_left (core_machine c mem) → r ≡ core_run words mem n → r ≡ core_settle words mem
+  by_its_run e h q = q ∙ ap (core_run words mem) (h ∙ ap (λ (k : Core). cycles_left (core_machine k mem)) e) ∙ sym settle-runs
 
   pub settle-refusals : SettleRefusals words mem
   settle-refusals =

@@ -9,7 +9,6 @@ use Rattle.plain.specs.Refused.{record_refused, other_memory}
 use Rattle.plain.specs.Machine as unpiped
 use Rattle.plain.specs.Running.{Ran}
 use Rattle.plain.specs.Running as running
-use Rattle.plain.specs.declared.Plain.{Plain}
 use Rattle.plain.specs.Run as plain
 use Rattle.core_arrays.specs.CoreArray as core_array
 use Rattle.plain_arrays.specs.PlainArray as plain_array
@@ -23,7 +22,11 @@ pub record Started : Type 0 where
 abbrev pub started : ℕ → List ℕ → Started
 started answer words = record { answer = answer; words = words }
 
--- a run: the number it answers, the cycles or instructions it counted, and the array and memory it leaves
+-- what a start of either machine answers, and the array of the machine that it hands back
+abbrev pub begun_in : {P : Type 0} → (P → List ℕ) → running.Started P → Started
+begun_in packed b = started b.answer (packed b.machine)
+
+-- a run or settle: the number it answers, the cycles or instructions it counted, and the array and memory it leaves
 pub record Called : Type 0 where
   pub answer : ℕ
   pub used : ℕ
@@ -37,20 +40,17 @@ called answer used words mem = record { answer = answer; used = used; words = wo
 abbrev pub is_refusal : ℕ → Bool
 is_refusal answer = leb 1 answer && leb answer 20
 
--- a refused run: the array and the memory that it was lent, with 0 counted
+-- a refused call: the array and the memory that it was lent, with 0 counted
 abbrev pub refused : ℕ → List ℕ → List ℕ → Called
 refused answer words mem = called answer 0 words mem
 
--- a run on this array and memory, which are handed back where it is refused
+-- a call on this array and memory, which are handed back where it is refused
 abbrev pub unless_refused : List ℕ → List ℕ → Called → Called
 unless_refused words mem r = pick (is_refusal r.answer) (refused r.answer words mem) r
 
-abbrev pub core_begun : running.Started Core → Started
-core_begun b = started b.answer (core_array.packed b.machine)
-
 -- registers, flags, entry, memory
 unfoldable pub core_start : List ℕ → ℕ → ℕ → List ℕ → Started
-core_start g flags entry mem = core_begun (pipeline.start g flags entry mem)
+core_start g flags entry mem = begun_in core_array.packed (pipeline.start g flags entry mem)
 
 abbrev pub core_called : Ran pipelined.Machine → Called
 core_called r =
@@ -66,22 +66,27 @@ other_length lent length = not (eqb lent length)
 abbrev pub array_refusal : Bool → Bool → ℕ
 array_refusal differs stands = pick differs other_memory (pick (not stands) record_refused 0)
 
--- what a core's array refuses with before its core is run, or 0
+-- what a core's array refuses with before its core is called, or 0
 abbrev pub refusal_of : List ℕ → ℕ → ℕ
 refusal_of words lent = array_refusal (other_length lent (core_array.length_in words)) (core_array.stands_for_core words)
 
--- array, memory, budget
-unfoldable pub core_run : List ℕ → List ℕ → ℕ → Called
-core_run words mem budget =
+-- a call of the core, on an array: refused for the array, or what the array's core answers and leaves
+abbrev pub on_core : (pipelined.Machine → Ran pipelined.Machine) → List ℕ → List ℕ → Called
+on_core call words mem =
     pick (eqb (refusal_of words (length mem)) 0)
-    (unless_refused words mem (core_called (pipeline.run (length mem) budget (core_machine (core_array.unpacked words) mem))))
+    (unless_refused words mem (core_called (call (core_machine (core_array.unpacked words) mem))))
     (refused (refusal_of words (length mem)) words mem)
 
-abbrev pub plain_begun : running.Started Plain → Started
-plain_begun b = started b.answer (plain_array.packed b.machine)
+-- array, memory, budget
+unfoldable pub core_run : List ℕ → List ℕ → ℕ → Called
+core_run words mem budget = on_core (pipeline.run (length mem) budget) words mem
+
+-- array, memory
+unfoldable pub core_settle : List ℕ → List ℕ → Called
+core_settle words mem = on_core (pipeline.settle (length mem)) words mem
 
 unfoldable pub plain_start : List ℕ → ℕ → ℕ → List ℕ → Started
-plain_start g flags entry mem = plain_begun (plain.start g flags entry mem)
+plain_start g flags entry mem = begun_in plain_array.packed (plain.start g flags entry mem)
 
 abbrev pub plain_called : Ran unpiped.Machine → Called
 plain_called r = called r.answer r.used (plain_array.packed r.machine.plain) r.machine.memory

@@ -1,15 +1,10 @@
--- What the calls of either machine answer and leave, by how the machine is packed.
+-- What a run of either machine answers and leaves, by how the machine is packed.
 use Rattle.std.specs.Prelude.{ℕ, List, Result, Ok, Err}
 use Rattle.stops.specs.Numbers.{held_number}
 use Rattle.plain.specs.declared.Ran.{Ran}
 use Rattle.plain.specs.declared.refused.Refusal.{Refusal}
 use Rattle.plain.specs.Refused.{number_of}
-use Rattle.plain.specs.Running as running
-use Rattle.slot.specs.Calls.{Started, started, Called, called, refused}
-
--- a start
-abbrev pub begun_in : {P : Type 0} → (P → List ℕ) → running.Started P → Started
-begun_in packed b = started b.answer (packed b.machine)
+use Rattle.slot.specs.Calls.{Called, called, refused}
 
 -- a run on these words, and the memory that it left
 abbrev pub ended_in : {P : Type 0} → (P → List ℕ) → List ℕ → List ℕ → Result (Ran P) Refusal → Called

@@ -1,6 +1,5 @@
 pub mod Abi
 pub mod Calls
 pub mod Kept
-pub mod Settle
 pub mod Refusals
 pub mod Lists

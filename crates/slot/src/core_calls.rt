@@ -1,7 +1,6 @@
 // The core's calls.
 ghost use Rattle.std.specs.Prelude.{◌≡◌};
-ghost use Rattle.slot.specs.Calls.{started, called, core_start, core_run};
-ghost use Rattle.slot.specs.Settle.{core_settle};
+ghost use Rattle.slot.specs.Calls.{started, called, core_start, core_run, core_settle};
 
 use crate::kept::{begin, end};
 use crate::refusal::refusal_of;
@@ -45,7 +44,7 @@ pub extern "C" fn slot_core_run(
 }
 
 // The run whose budget is the cycles left, so that what a call of a few cycles goes through stands in one place.
-#[tactic(auto, using(crate::proofs::Settling::settled))]
+#[tactic(auto, using(crate::proofs::Settling::by_its_run))]
 #[unsafe(no_mangle)]
 pub extern "C" fn slot_core_settle(core: &mut CoreArray, memory: &mut [u8], used: &mut u64) -> u32
     ensures { called result used.new core.new memory.new ≡ core_settle core.old memory.old }

@@ -3,8 +3,8 @@ ghost use Rattle.std.specs.Prelude.{◌≡◌, List, ℕ};
 ghost use Rattle.plain.specs.Told.{started_as};
 ghost use Rattle.plain_arrays.specs.PlainArray as plain_array;
 ghost use Rattle.core_arrays.specs.CoreArray as core_array;
-ghost use Rattle.slot.specs.Calls.{started, called};
-ghost use Rattle.slot.specs.Kept.{begun_in, ended_in};
+ghost use Rattle.slot.specs.Calls.{begun_in, called, started};
+ghost use Rattle.slot.specs.Kept.{ended_in};
 
 use core_arrays::CoreArray;
 use pipeline::Core;

@@ -25,7 +25,7 @@ fn array_refusal(differs: bool, stands: bool) -> Result<(), Refusal>
     Ok(())
 }
 
-// What the array refuses with before its core is run.
+// What the array refuses with before its core is called.
 pub fn refusal_of(words: &CoreArray, lent: usize) -> Result<(), Refusal>
     ensures { refusal_number result ≡ refusal_of words.now lent }
 {
