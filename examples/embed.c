@@ -1,4 +1,5 @@
-/* Runs an image and prints every store into a link window: its cycle, and the cycles since the one before.
+/* Runs an image and prints every store into a link window: its cycle, and the cycles since the one before. Then the
+ * cycles, and the instructions done with their ticks of the slot memory.
  *
  *     gcc -std=c11 -Wall -Wextra -pedantic -I include examples/embed.c target/staticlib/libslot.a -o target/embed
  *     target/embed [IMAGE FROM-TO [CYCLES]]
@@ -144,6 +145,18 @@ static uint32_t coming_store(const uint32_t *core, uint32_t *address)
     return 4;
 }
 
+/* A count of the array: its low word and the next. */
+static uint64_t count(const uint32_t *core, size_t low)
+{
+    return (uint64_t)core[low + 1] << 32 | core[low];
+}
+
+/* The ticks of the start's refill and of all instructions done: the header's way. */
+static uint64_t ticks(const uint32_t *core)
+{
+    return 2 * count(core, SLOT_CORE_SUM_N) + count(core, SLOT_CORE_SUM_S) + count(core, SLOT_CORE_SUM_I);
+}
+
 static void tell(uint64_t cycle, uint64_t gap, uint32_t bytes, uint32_t address, uint32_t datum)
 {
     printf("cycle %" PRIu64 ": %" PRIu32 " byte%s at %08" PRIX32 ", ", cycle, bytes, bytes == 1 ? "" : "s", address);
@@ -173,8 +186,9 @@ static void watch(uint32_t *core, size_t length, uint64_t from, uint64_t to, uin
     if (answer >= SLOT_STOP_FIRST) {
         printf(" at %08" PRIX32, (core[SLOT_CORE_PC] - 8) % (UINT32_C(1) << 26));
     }
-    printf(" after %" PRIu64 " cycles and %" PRIu64 " instructions; stores into %08" PRIX64 "-%08" PRIX64 ": %" PRIu64 "\n",
-           cycles, (uint64_t)core[SLOT_CORE_RETIRED_HIGH] << 32 | core[SLOT_CORE_RETIRED], from, to, stores);
+    printf(" after %" PRIu64 " cycles and %" PRIu64 " instructions (%" PRIu64 " ticks)", cycles, count(core, SLOT_CORE_RETIRED),
+           ticks(core));
+    printf("; stores into %08" PRIX64 "-%08" PRIX64 ": %" PRIu64 "\n", from, to, stores);
 }
 
 /* The status of a program that has printed all it has to say. */

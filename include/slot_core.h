@@ -8,11 +8,11 @@
  * Threads: calls on different arrays and memories may run at once, in any number. One array or memory is one call's at
  * a time.
  *
- * Every call but slot_word_read and slot_abi_1 answers one of the numbers below.
+ * Every call but slot_word_read and slot_abi_2 answers one of the numbers below.
  *
  * ---- what stands below
- *   version and layout; numbers; a core's array, and how to read it between calls; a plain machine's array; a word's
- *   record; the calls. */
+ *   version and layout; numbers; a core's array, how to read it between calls, and the ticks of the slot memory; a
+ *   plain machine's array; a word's record; the calls. */
 #ifndef SLOT_CORE_H
 #define SLOT_CORE_H
 
@@ -26,12 +26,12 @@ extern "C" {
 /* ---- version and layout
  *
  * SLOT_ABI numbers the layouts of the arrays and the calls. It rises where an array grows, a place moves or a call
- * changes. Each file that includes this header refers to slot_abi_1, which only an archive of that number has, so a
- * program built with this header and another archive does not link: "undefined reference to `slot_abi_1'". A language
- * without this header refers to slot_abi_1 itself, or looks it up before its first call. It answers the number. */
-#define SLOT_VERSION "0.7.0"
-#define SLOT_ABI 1
-uint32_t slot_abi_1(void);
+ * changes. Each file that includes this header refers to slot_abi_2, which only an archive of that number has, so a
+ * program built with this header and another archive does not link: "undefined reference to `slot_abi_2'". A language
+ * without this header refers to slot_abi_2 itself, or looks it up before its first call. It answers the number. */
+#define SLOT_VERSION "0.8.0"
+#define SLOT_ABI 2
+uint32_t slot_abi_2(void);
 
 #if defined(__has_attribute)
 #if __has_attribute(retain)
@@ -41,7 +41,7 @@ uint32_t slot_abi_1(void);
 #if !defined(SLOT_ABI_KEPT)
 #define SLOT_ABI_KEPT __attribute__((used))
 #endif
-static uint32_t (*const slot_abi_wanted)(void) SLOT_ABI_KEPT = slot_abi_1;
+static uint32_t (*const slot_abi_wanted)(void) SLOT_ABI_KEPT = slot_abi_2;
 
 /* ---- numbers
  *
@@ -90,7 +90,13 @@ enum {
     SLOT_CORE_RETIRED_HIGH = 30,
     SLOT_CORE_STOP = 31,        /* 0, or the stop that is held */
     SLOT_CORE_LENGTH = 32,      /* the memory's length */
-    SLOT_CORE_WORDS = 33
+    SLOT_CORE_SUM_N = 33,       /* non-sequential cycles, a count like CYCLES; see "ticks" below */
+    SLOT_CORE_SUM_N_HIGH = 34,
+    SLOT_CORE_SUM_S = 35,       /* sequential cycles */
+    SLOT_CORE_SUM_S_HIGH = 36,
+    SLOT_CORE_SUM_I = 37,       /* internal cycles */
+    SLOT_CORE_SUM_I_HIGH = 38,
+    SLOT_CORE_WORDS = 39
 };
 enum {
     SLOT_PHASE_STEP1 = 0,   /* a boundary: the coming cycle is the first step of the instruction at A */
@@ -126,12 +132,42 @@ enum {
  * ADDRESS before the call that does the reading cycle. What is fetched stays as it was fetched: at a boundary IX and IR2
  * hold the word at A, IR1 the one at A+4, and they are executed as they stand, whatever memory holds by then; the word
  * at A+8 is fetched in the coming cycle. In steps 2 and up IX holds the word at A, IR2 that at A+4, IR1 that at A+8.
- * A host may change the array as well; a run or settle refuses with 11 what no core can be
- * in, and goes on from the rest as it stands.
+ *
+ * A host may change the array as well; a run or settle refuses with 11 what no core can be in, and goes on from the
+ * rest as it stands. Such are sums (SUM_N, SUM_S, SUM_I) that together are above CYCLES, and a refill with a word in IX
+ * that cannot store the counter: one of SLOT_CONDITION_NV, of a form that the rules forbid, or that neither branches nor
+ * writes R15. (A blank IX is the start's refill.) A call on a changed array may itself leave one that the next call
+ * refuses: where PHASE is not 0 the sums still lack what the instruction under way adds, and may be above CYCLES with it.
+ *
+ * Ticks of the slot memory. It takes two ticks for a non-sequential access (N), and one for a sequential (S) or internal
+ * (I) cycle. SUM_N, SUM_S and SUM_I count the cycles of each kind since the start, each in a low and a high word:
+ *
+ *     uint64_t n = (uint64_t)core[SLOT_CORE_SUM_N_HIGH] << 32 | core[SLOT_CORE_SUM_N];
+ *     uint64_t s = (uint64_t)core[SLOT_CORE_SUM_S_HIGH] << 32 | core[SLOT_CORE_SUM_S];
+ *     uint64_t i = (uint64_t)core[SLOT_CORE_SUM_I_HIGH] << 32 | core[SLOT_CORE_SUM_I];
+ *     uint64_t ticks = 2 * n + s + i;
+ *
+ * Read them at a boundary: slot_core_settle goes on to the next, and a core that holds a stop is on one. There, from a
+ * start, N + S + I is CYCLES. A rate per tick, from one boundary to another, takes the difference of the two readings.
+ * Between boundaries the ticks leave out the instruction under way: all its cycles join the sums in its last one, where
+ * RETIRED rises too. An instruction adds
+ *
+ *     where its condition failed           S
+ *     processing                           S, with a shift by register S + I
+ *     single load                          S + N + I
+ *     single store                         2N
+ *     block load of n registers            nS + N + I
+ *     block store of n registers           (n-1)S + 2N
+ *     branch                               2S + N
+ *     multiply of 1 + m cycles             S + mI
+ *     processing or load that writes R15   S + N more, for its refill
+ *
+ * and the start's refill S + N, in the second cycle.
  *
  * Long runs. CYCLES goes up to 2^40, 38 hours at 8 MHz; a run that might pass it is refused with 13 and changes
- * nothing. To go on, at a boundary (slot_core_settle): add CYCLES and RETIRED to totals of your own, set both, and their high words, to 0,
- * and call again. Nothing else in a core depends on them. */
+ * nothing. To go on, at a boundary (slot_core_settle): add CYCLES, RETIRED and the three sums to totals of your own, set
+ * all five, and their high words, to 0, and call again. Sums left as they are would be above CYCLES, and the call be
+ * refused with 11. Nothing else in a core depends on the five. */
 
 /* ---- a plain machine: the index of each word */
 enum {

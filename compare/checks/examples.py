@@ -12,11 +12,11 @@ cycle 14: 4 bytes at 00000080, 00000002, 7 after the one before
 cycle 21: 4 bytes at 00000080, 00000003, 7 after the one before
 cycle 28: 4 bytes at 00000080, 00000004, 7 after the one before
 cycle 35: 4 bytes at 00000080, 00000005, 7 after the one before
-answer 22 (a SWI, or an instruction that this core has not) at 00000018 after 37 cycles and 22 instructions; stores into 00000080-00000084: 5
+answer 22 (a SWI, or an instruction that this core has not) at 00000018 after 37 cycles and 22 instructions (52 ticks); stores into 00000080-00000084: 5
 """
 
 # MOV R0, #100; MOV R1, #41; STR R1, [R0] twice; STRB R1, [R0, #1]; STMIA R0!, {R1, R2}; SWI. By the table of durations the stores are in
-# cycles 6, 8, 10, 12 and 13.
+# cycles 6, 8, 10, 12 and 13; by that of ticks 9 of the 13 cycles, the start's and two of each store, are non-sequential.
 STORES = image([0xE3A00C01, 0xE3A01041, 0xE5801000, 0xE5801000, 0xE5C01001, 0xE8A00006, 0xEF000000], 512)
 STORES_SEEN = """\
 cycle 6: 4 bytes at 00000100, 00000041
@@ -24,16 +24,16 @@ cycle 8: 4 bytes at 00000100, 00000041, 2 after the one before
 cycle 10: 1 byte at 00000101, 41, 2 after the one before
 cycle 12: 4 bytes at 00000100, 00000041, 2 after the one before
 cycle 13: 4 bytes at 00000104, 00000000, 1 after the one before
-answer 22 (a SWI, or an instruction that this core has not) at 00000018 after 13 cycles and 6 instructions; stores into 00000100-00000108: 5
+answer 22 (a SWI, or an instruction that this core has not) at 00000018 after 13 cycles and 6 instructions (22 ticks); stores into 00000100-00000108: 5
 """
 LAST_SEEN = """\
 cycle 13: 4 bytes at 00000104, 00000000
-answer 22 (a SWI, or an instruction that this core has not) at 00000018 after 13 cycles and 6 instructions; stores into 00000104-00000108: 1
+answer 22 (a SWI, or an instruction that this core has not) at 00000018 after 13 cycles and 6 instructions (22 ticks); stores into 00000104-00000108: 1
 """
 EIGHT_SEEN = """\
 cycle 6: 4 bytes at 00000100, 00000041
 cycle 8: 4 bytes at 00000100, 00000041, 2 after the one before
-answer 0 (the cycles asked for are spent) after 8 cycles and 4 instructions; stores into 00000100-00000108: 2
+answer 0 (the cycles asked for are spent) after 8 cycles and 4 instructions (13 ticks); stores into 00000100-00000108: 2
 """
 
 # samples/sender.c, whose data are the numbers of xorshift32 from 1: the first frame is gathered in 70 cycles, and a word of it takes 10.
@@ -41,7 +41,7 @@ SENDER_SEEN = """\
 cycle 75: 4 bytes at 000003F0, 7E7E7E7E
 cycle 81: 4 bytes at 000003F0, 00042021, 6 after the one before
 cycle 91: 4 bytes at 000003F0, 04080601, 10 after the one before
-answer 0 (the cycles asked for are spent) after 100 cycles and 59 instructions; stores into 000003F0-000003F4: 3
+answer 0 (the cycles asked for are spent) after 100 cycles and 59 instructions (134 ticks); stores into 000003F0-000003F4: 3
 """
 
 # name, arguments (a str that begins with @ is an image's file), status, output, what standard error must have
@@ -51,7 +51,7 @@ USES = [
     ("a window of one word", ["@stores", "104-108"], 0, LAST_SEEN, ""),
     ("as long as asked", ["@stores", "100-108", "8"], 0, EIGHT_SEEN, ""),
     ("a compiled sender", [str(TOP / "samples/sender.bin"), "3F0-3F4", "100"], 0, SENDER_SEEN, ""),
-    ("lower case", ["@stores", "fc-100", "0"], 0, "answer 0 (the cycles asked for are spent) after 0 cycles and 0 instructions; stores into 000000FC-00000100: 0\n", ""),
+    ("lower case", ["@stores", "fc-100", "0"], 0, "answer 0 (the cycles asked for are spent) after 0 cycles and 0 instructions (0 ticks); stores into 000000FC-00000100: 0\n", ""),
     ("no window", ["@stores"], 2, "", "needs a window"),
     ("too many arguments", ["@stores", "0-4", "1", "1"], 2, "", "too many"),
     ("a window that is none", ["@stores", "100"], 2, "", "'100'"),

@@ -144,6 +144,52 @@ static void answers(void)
     so(slot_word_write(record, &word) == SLOT_NO_WORD && word == 0, "5 is a record that has no word", 9);
 }
 
+/* ---- long runs, and ticks */
+
+enum { SUM_WORDS = SLOT_CORE_SUM_I_HIGH + 1 - SLOT_CORE_SUM_N, COUNT_WORDS = SLOT_CORE_RETIRED_HIGH + 1 - SLOT_CORE_CYCLES };
+
+static uint64_t count(size_t low)
+{
+    return (uint64_t)core[low + 1] << 32 | core[low];
+}
+
+static void set_count(size_t low, uint64_t value)
+{
+    core[low] = (uint32_t)value;
+    core[low + 1] = (uint32_t)(value >> 32);
+}
+
+static void set_sums(uint64_t n, uint64_t s, uint64_t i)
+{
+    set_count(SLOT_CORE_SUM_N, n);
+    set_count(SLOT_CORE_SUM_S, s);
+    set_count(SLOT_CORE_SUM_I, i);
+}
+
+static int sums_are(uint64_t n, uint64_t s, uint64_t i)
+{
+    return count(SLOT_CORE_SUM_N) == n && count(SLOT_CORE_SUM_S) == s && count(SLOT_CORE_SUM_I) == i;
+}
+
+/* By the header's lines. */
+static uint64_t ticks(void)
+{
+    uint64_t n = (uint64_t)core[SLOT_CORE_SUM_N_HIGH] << 32 | core[SLOT_CORE_SUM_N];
+    uint64_t s = (uint64_t)core[SLOT_CORE_SUM_S_HIGH] << 32 | core[SLOT_CORE_SUM_S];
+    uint64_t i = (uint64_t)core[SLOT_CORE_SUM_I_HIGH] << 32 | core[SLOT_CORE_SUM_I];
+    return 2 * n + s + i;
+}
+
+/* Whether a run and a settle refuse the core with 11, and change nothing. A run of no cycles tells as well. */
+static int bad(void)
+{
+    uint32_t before[SLOT_CORE_WORDS];
+    uint64_t used;
+    memcpy(before, core, sizeof before);
+    return run(0) == SLOT_BAD_RECORD && run(1) == SLOT_BAD_RECORD && slot_core_settle(core, memory, LENGTH, &used) == SLOT_BAD_RECORD &&
+           used == 0 && memcmp(before, core, sizeof before) == 0;
+}
+
 /* Near 2^40 cycles: 13 changes nothing, and with counts set to 0 the core goes on as it would have. */
 static void long_runs(void)
 {
@@ -161,12 +207,154 @@ static void long_runs(void)
     begin(words, 3, zeros, 0);
     run(50 * 6);
     so(core[SLOT_CORE_PHASE] == SLOT_PHASE_STEP1, "a loop of 6 cycles", core[SLOT_CORE_PHASE]);
-    core[SLOT_CORE_CYCLES] = core[SLOT_CORE_CYCLES_HIGH] = core[SLOT_CORE_RETIRED] = core[SLOT_CORE_RETIRED_HIGH] = 0;
+    memset(core + SLOT_CORE_CYCLES, 0, COUNT_WORDS * sizeof *core);
+    so(bad(), "11 is a core whose sums were left as they were", core[SLOT_CORE_SUM_S]);
+    memset(core + SLOT_CORE_SUM_N, 0, SUM_WORDS * sizeof *core);
     run(50 * 6);
     so(core[SLOT_CORE_CYCLES] == 300 && core[SLOT_CORE_RETIRED] == 150, "counts begin anew", core[SLOT_CORE_CYCLES]);
-    core[SLOT_CORE_CYCLES] = on[SLOT_CORE_CYCLES];
-    core[SLOT_CORE_RETIRED] = on[SLOT_CORE_RETIRED];
+    so(sums_are(150, 150, 0) && ticks() == 450, "and the sums with them", core[SLOT_CORE_SUM_N]); /* S, 2N and 2S + N each time */
+    memcpy(core + SLOT_CORE_CYCLES, on + SLOT_CORE_CYCLES, COUNT_WORDS * sizeof *core);
+    memcpy(core + SLOT_CORE_SUM_N, on + SLOT_CORE_SUM_N, SUM_WORDS * sizeof *core);
     so(memcmp(on, core, sizeof on) == 0, "nothing else in a core depends on its counts", 0);
+}
+
+/* What a word's instruction adds to the sums, in its last cycle alone. What it writes to R15 is R0, or a word of memory: 10. */
+static void adds(uint32_t word, uint64_t n, uint64_t s, uint64_t i, const char *claim)
+{
+    uint32_t registers[15] = {0x10, 0x80, 9, 32, 0, 0xFFFFFFFF, 1}; /* m by R2, R5 and R6 is 3, 16 and 1 */
+    begin(&word, 1, registers, 0);
+    for (size_t at = 0x80; at < 0xC0; at += 4) {
+        put(at, 0x10);
+    }
+    for (uint64_t cycle = 1; cycle < n + s + i; cycle++) {
+        run(1);
+        so(sums_are(1, 1, 0) && ticks() == 3 && core[SLOT_CORE_RETIRED] == 0, "an instruction under way is in no sum", word);
+        so(core[SLOT_CORE_PHASE] != SLOT_PHASE_STEP1, "it is under way", word);
+    }
+    run(1);
+    so(sums_are(1 + n, 1 + s, i) && ticks() == 3 + 2 * n + s + i, claim, word);
+    so(core[SLOT_CORE_PHASE] == SLOT_PHASE_STEP1 && core[SLOT_CORE_RETIRED] == 1 && core[SLOT_CORE_CYCLES] == 2 + n + s + i, "it is done", word);
+}
+
+static void tick_table(void)
+{
+    memset(memory, 0, LENGTH);
+    slot_core_start(core, zeros, 0, 0, memory, LENGTH);
+    so(sums_are(0, 0, 0), "a start's sums are 0", 0);
+    run(1);
+    so(sums_are(0, 0, 0), "and after a cycle still", 0);
+    run(1);
+    so(sums_are(1, 1, 0) && ticks() == 3 && core[SLOT_CORE_RETIRED] == 0, "the start's refill: S + N in the second cycle", 0);
+    adds(0x01A00000, 0, 1, 0, "condition failed: S");
+    adds(0x08918030, 0, 1, 0, "condition failed of a block load: S");
+    adds(0xE1A04001, 0, 1, 0, "processing: S");
+    adds(0xE331F000, 0, 1, 0, "TEQ with Rd=15 stores no counter: S");
+    adds(0xE1A04210, 0, 1, 1, "processing with a shift by register: S + I");
+    adds(0xE1A0F000, 1, 2, 0, "MOV R15: S, and S + N more");
+    adds(0xE1B0F370, 1, 2, 1, "MOVS R15 with a shift by register: S + I, and S + N more");
+    adds(0xE5914000, 1, 1, 1, "single load: S + N + I");
+    adds(0xE5D14001, 1, 1, 1, "load of a byte: S + N + I");
+    adds(0xE591F000, 2, 2, 1, "load of R15: S + N + I, and S + N more");
+    adds(0xE5814000, 2, 0, 0, "single store: 2N");
+    adds(0xE5C14001, 2, 0, 0, "store of a byte: 2N");
+    adds(0xE581F000, 2, 0, 0, "store of R15: 2N");
+    adds(0xE8910010, 1, 1, 1, "block load of 1: S + N + I");
+    adds(0xE89140F0, 1, 5, 1, "block load of 5: 5S + N + I");
+    adds(0xE8918030, 2, 4, 1, "block load of 3 with R15: 3S + N + I, and S + N more");
+    adds(0xE8810010, 2, 0, 0, "block store of 1: 2N");
+    adds(0xE88140F0, 2, 4, 0, "block store of 5: 4S + 2N");
+    adds(0xE8818030, 2, 2, 0, "block store of 3 with R15: 2S + 2N");
+    adds(0xEA000002, 1, 2, 0, "branch: 2S + N");
+    adds(0xEB000002, 1, 2, 0, "branch with link: 2S + N");
+    adds(0xE0040290, 0, 1, 3, "MUL, m is 3: S + 3I");
+    adds(0xE0020290, 0, 1, 3, "MUL into Rs: S + 3I");
+    adds(0xE0240591, 0, 1, 16, "MLA, m is 16: S + 16I");
+    adds(0xE0140691, 0, 1, 1, "MULS, m is 1: S + I");
+}
+
+/* 11: sums that together are above CYCLES, whatever they come to in 64 bits. */
+static void bad_sums(void)
+{
+    static const uint32_t word = 0xE1A00000;
+    const uint64_t half = UINT64_C(1) << 63, above = UINT64_C(1) << 32;
+    begin(&word, 1, zeros, 0);
+    so(run(0) == SLOT_OK, "sums of CYCLES are fine", 0);
+    set_sums(1, 1, 1);
+    so(bad(), "11 is sums of 1 above CYCLES", 0);
+    set_sums(0, 0, 0);
+    so(run(1) == SLOT_OK && sums_are(0, 1, 0), "sums below CYCLES are fine", core[SLOT_CORE_SUM_S]);
+    for (size_t at = SLOT_CORE_SUM_N; at <= SLOT_CORE_SUM_I; at += 2) {
+        set_sums(0, 0, 0);
+        set_count(at, 4);
+        so(bad(), "11 is one sum above CYCLES", (uint32_t)at);
+        set_count(at, above);
+        so(bad(), "11 is one high word above CYCLES", (uint32_t)at);
+        set_count(SLOT_CORE_CYCLES, above);
+        so(run(0) == SLOT_OK, "sums of CYCLES with a high word are fine", (uint32_t)at);
+        set_count(SLOT_CORE_CYCLES, 3);
+    }
+    set_sums(half, half, 0);
+    so(bad(), "11 is sums of 2^64", 0);
+    set_sums(1, half, half);
+    so(bad(), "11 is sums of 2^64 + 1", 0);
+    set_sums(UINT64_MAX, 1, 3);
+    so(bad(), "11 is sums of 2^64 + 3", 0);
+    begin(&word, 1, zeros, 0);
+    set_count(SLOT_CORE_CYCLES, above);
+    set_sums(0, above - 1, 1);
+    so(run(1) == SLOT_OK && sums_are(0, above, 1) && ticks() == above + 1, "a sum rises into its high word", core[SLOT_CORE_SUM_S_HIGH]);
+}
+
+/* 11: a refill with a word in IX that cannot store the counter, by the word alone. Either refill, at the start's place. */
+static void refills_of(uint32_t word, int can, const char *claim)
+{
+    for (unsigned done = 0; done < 2; done++) {
+        memset(memory, 0, LENGTH);
+        slot_core_start(core, zeros, 0, 0, memory, LENGTH);
+        run(done);
+        so(run(0) == SLOT_OK, "a blank IX is the start's refill", done);
+        core[SLOT_CORE_IX] = word;
+        core[SLOT_CORE_IX_VALID] = 1;
+        so(can ? run(0) == SLOT_OK : bad(), claim, word);
+    }
+}
+
+static void bad_refills(void)
+{
+    refills_of(0xEA000000, 1, "a branch can be refilled");
+    refills_of(0x0B000000, 1, "a branch whose condition the flags no longer pass, too");
+    refills_of(0x01A0F000, 1, "MOV R15 likewise");
+    refills_of(0xE1B0F370, 1, "MOVS R15 with a shift by register");
+    refills_of(0xE591F000, 1, "a load of R15");
+    refills_of(0xE8918030, 1, "a block load with R15");
+    refills_of(0xFA000000, 0, "11 is a refill of a branch with SLOT_CONDITION_NV");
+    refills_of(0xF1A0F000, 0, "11 is a refill of MOV R15 with SLOT_CONDITION_NV");
+    refills_of(0xE1A0FF10, 0, "11 is a refill of a form that the rules forbid: Rs=15");
+    refills_of(0xE5D1F000, 0, "11 is a refill of a form that the rules forbid: a byte to R15");
+    refills_of(0xE8D18000, 0, "11 is a refill of a form that the rules forbid: a block with S");
+    refills_of(0xE1A00000, 0, "11 is a refill of MOV R0");
+    refills_of(0xE331F000, 0, "11 is a refill of TEQ with Rd=15");
+    refills_of(0xE5914000, 0, "11 is a refill of a load of R4");
+    refills_of(0xE581F000, 0, "11 is a refill of a store of R15");
+    refills_of(0xE8910030, 0, "11 is a refill of a block load without R15");
+    refills_of(0xE8818030, 0, "11 is a refill of a block store with R15");
+    refills_of(0xE0040291, 0, "11 is a refill of a multiply");
+    refills_of(0xEF000000, 0, "11 is a refill of a SWI");
+}
+
+/* Counts set to 0 between two boundaries: the call is done, and leaves sums above CYCLES. */
+static void changed_under_way(void)
+{
+    static const uint32_t word = 0xE5910000; /* LDR R0, [R1] */
+    uint64_t used;
+    for (unsigned done = 1; done < 3; done++) {
+        begin(&word, 1, zeros, 0);
+        run(done);
+        memset(core + SLOT_CORE_CYCLES, 0, COUNT_WORDS * sizeof *core);
+        memset(core + SLOT_CORE_SUM_N, 0, SUM_WORDS * sizeof *core);
+        so(slot_core_settle(core, memory, LENGTH, &used) == SLOT_OK && used == 3 - done, "counts set to 0 under way are accepted", done);
+        so(sums_are(1, 1, 1) && bad(), "and lead to sums above CYCLES, which the next call refuses", done);
+    }
 }
 
 /* ---- settle */
@@ -525,6 +713,13 @@ static void watched_cycle(unsigned *stores, unsigned *loads)
         so(answer == SLOT_OK, "a cycle that stores or loads finds no stop", answer);
     }
     so(only_reads(before, stored != 0 ? expected : memory, loaded, from), "the coming cycle reads exactly what the header says", before[SLOT_CORE_IX]);
+    if (core[SLOT_CORE_PHASE] == SLOT_PHASE_STEP1) {
+        const uint64_t together = count(SLOT_CORE_SUM_N) + count(SLOT_CORE_SUM_S) + count(SLOT_CORE_SUM_I);
+        so(together == count(SLOT_CORE_CYCLES), "at a boundary N + S + I is CYCLES", before[SLOT_CORE_IX]);
+    } else {
+        const int kept = memcmp(before + SLOT_CORE_SUM_N, core + SLOT_CORE_SUM_N, SUM_WORDS * sizeof *core) == 0;
+        so(kept, "the sums rise at boundaries alone", before[SLOT_CORE_IX]);
+    }
     if (loaded == 4) {
         const uint32_t turn = from % 4 * 8, word = word_at(memory, from & ~3u);
         so(core[SLOT_CORE_DATUM] == (turn == 0 ? word : word >> turn | word << (32 - turn)), "a load's word is in DATUM after its cycle", core[SLOT_CORE_DATUM]);
@@ -553,11 +748,15 @@ static void watched_images(void)
 
 int main(void)
 {
-    so(slot_abi_1() == SLOT_ABI, "the archive's number is SLOT_ABI", slot_abi_1());
+    so(slot_abi_2() == SLOT_ABI, "the archive's number is SLOT_ABI", slot_abi_2());
     places();
     plain_places();
     answers();
     long_runs();
+    tick_table();
+    bad_sums();
+    bad_refills();
+    changed_under_way();
     settles();
     operations();
     shifts();

@@ -13,7 +13,7 @@ READ = ["include", "examples/rust/src", "compare/driver/src", "compare/header", 
 WRONG = [
     ("a place of the core", "include/slot_core.h", "SLOT_CORE_STOP = 31", "SLOT_CORE_STOP = 30"),
     ("a name of the core gone", "include/slot_core.h", "    SLOT_CORE_BASE = 26,", ""),
-    ("the words of a core", "include/slot_core.h", "SLOT_CORE_WORDS = 33", "SLOT_CORE_WORDS = 32"),
+    ("the words of a core", "include/slot_core.h", "SLOT_CORE_WORDS = 39", "SLOT_CORE_WORDS = 38"),
     ("a place of the plain machine", "include/slot_core.h", "SLOT_PLAIN_STOP = 17", "SLOT_PLAIN_STOP = 18"),
     ("a place of a record", "include/slot_core.h", "SLOT_RECORD_RN = 8", "SLOT_RECORD_RN = 9"),
     ("a class", "include/slot_core.h", "SLOT_CLASS_BLOCK = 2", "SLOT_CLASS_BLOCK = 3"),

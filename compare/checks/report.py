@@ -4,7 +4,7 @@ import subprocess
 
 from harness import TOP, run
 
-COUNTDOWN = "answer=22\npc=00000014\ncycles=21\nretired=11\nflags=6\n" + "".join(f"r{k}=00000000\n" for k in range(15))
+COUNTDOWN = "answer=22\npc=00000014\ncycles=21\nticks=26\nretired=11\nflags=6\n" + "".join(f"r{k}=00000000\n" for k in range(15))
 REPORT = TOP / "report"
 SAMPLE = TOP / "samples/countdown.bin"
 

@@ -2,12 +2,30 @@
 
 use std::os::raw::c_uint;
 
-pub type CoreArray = [u32; 33];
+pub type CoreArray = [u32; 39];
 pub type PlainArray = [u32; 19];
 pub type RecordArray = [u32; 16];
 
+// Places in a core's array. A count takes two, the low word first.
+pub const CORE_PC: usize = 15;
+pub const CORE_FLAGS: usize = 16;
+pub const CORE_IR1: usize = 17;
+pub const CORE_IR2: usize = 19;
+pub const CORE_IX: usize = 21;
+pub const CORE_PHASE: usize = 23;
+pub const CORE_ADDRESS: usize = 24;
+pub const CORE_DATUM: usize = 25;
+pub const CORE_BASE: usize = 26;
+pub const CORE_CYCLES: usize = 27;
+pub const CORE_RETIRED: usize = 29;
+pub const CORE_STOP: usize = 31;
+pub const CORE_LENGTH: usize = 32;
+pub const CORE_SUM_N: usize = 33;
+pub const CORE_SUM_S: usize = 35;
+pub const CORE_SUM_I: usize = 37;
+
 extern "C" {
-    fn slot_abi_1() -> c_uint;
+    fn slot_abi_2() -> c_uint;
     fn slot_core_start(
         core: *mut u32,
         registers: *const u32,
@@ -45,7 +63,7 @@ extern "C" {
 
 /// Refers to the number of the layouts, so that an archive of another one does not link.
 #[used]
-static ABI: unsafe extern "C" fn() -> c_uint = slot_abi_1;
+static ABI: unsafe extern "C" fn() -> c_uint = slot_abi_2;
 
 /// What results are filled with before a call, so that one left unwritten shows.
 const STALE: u32 = 0xA5A5_A5A5;
@@ -53,7 +71,7 @@ const STALE_LONG: u64 = 0xA5A5_A5A5_A5A5_A5A5;
 
 /// The answer and the core.
 pub fn core_start(r: &[u32; 15], flags: u32, entry: u32, memory: &[u8]) -> (u32, CoreArray) {
-    let mut core = [STALE; 33];
+    let mut core = [STALE; 39];
     // SAFETY: the pointers are to arrays of the lengths that the header names, none overlaps.
     let answer = unsafe {
         slot_core_start(

@@ -1,10 +1,12 @@
 //! A comparison under way: its counts, how far it is, and the differences found.
 
+use crate::archive::{CORE_CYCLES, CORE_PHASE, CORE_STOP};
 use crate::arguments::Asked;
 use crate::counts::{Counts, Machines};
 use crate::difference::{show, CallDifference};
 use crate::figures::grouped;
 use crate::odd::Fields;
+use crate::odd_sums::long;
 use crate::pair::{Machine, Pair};
 use crate::progress::Progress;
 use interpreter::arm::{cycles_by_rs, decode, Instruction};
@@ -119,7 +121,7 @@ pub fn counted_settle(
 ) -> Checked<(u32, u64)> {
     let phase = Core::phase(pair);
     let (answer, used) = pair.settle(lent)?;
-    counts.settled(phase, answer, used);
+    counts.settled(pair, phase, answer, used);
     Ok((answer, used))
 }
 
@@ -133,7 +135,7 @@ impl Compared for Core {
     }
 
     fn phase(pair: &Pair<Core>) -> Option<u32> {
-        (pair.product[31] == 0).then_some(pair.product[23])
+        (pair.product[CORE_STOP] == 0).then_some(pair.product[CORE_PHASE])
     }
 
     fn multiplied(pair: &Pair<Core>) -> Option<u32> {
@@ -147,8 +149,7 @@ impl Compared for Core {
 
     fn near_the_end(pair: &mut Pair<Core>, random: &mut Random) {
         let cycles = (1u64 << 40) - u64::from(random.below(600));
-        pair.set(27, cycles as u32);
-        pair.set(28, (cycles >> 32) as u32);
+        pair.set_all(&long(CORE_CYCLES, cycles));
     }
 
     fn settle(counts: &mut Machines, pair: &mut Pair<Core>, lent: usize) -> Checked<()> {

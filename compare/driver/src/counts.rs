@@ -3,6 +3,7 @@
 use crate::comparison::Compared;
 use crate::figures::grouped;
 use crate::pair::Pair;
+use interpreter::pipeline::Core;
 
 #[derive(Default)]
 pub struct Counts {
@@ -17,6 +18,10 @@ impl Counts {
     pub fn show(&self) -> String {
         let totals = [
             (self.core.used, "cycles of the core"),
+            (
+                self.core.boundaries,
+                "boundaries where its sums came to its cycles",
+            ),
             (self.plain.used, "instructions of the plain machine"),
             (self.words.words, "words"),
             (self.words.records, "records of words"),
@@ -46,6 +51,8 @@ pub struct Machines {
     pub singles: u64,
     /// Instructions of the images: retired by the core, done by the plain machine.
     pub instructions: u64,
+    /// Reached from a start, where the product's sums were held to its cycles.
+    pub boundaries: u64,
     pub refused: u64,
     pub pokes: u64,
     pub tampered: u64,
@@ -67,17 +74,23 @@ impl Machines {
         self.answers[answer as usize % 32] += 1;
     }
 
-    pub fn saw(&mut self, answer: u32, used: u64, budget: u64) {
+    pub fn saw<M: Compared>(&mut self, pair: &Pair<M>, answer: u32, used: u64, budget: u64) {
         self.runs += 1;
-        self.used += used;
+        self.reached(pair, used);
         self.singles += u64::from(budget == 1 && used == 1);
         self.refused += u64::from((1..=13).contains(&answer));
         self.answers[answer as usize % 32] += 1;
     }
 
-    /// A settle that began in this phase, and what came of it.
-    pub fn settled(&mut self, phase: Option<u32>, answer: u32, used: u64) {
+    /// What a call used on its way to where the machine is now.
+    fn reached<M: Compared>(&mut self, pair: &Pair<M>, used: u64) {
         self.used += used;
+        self.boundaries += u64::from(used > 0 && pair.sums_hold().is_some());
+    }
+
+    /// A settle that began in this phase, and what came of it.
+    pub fn settled(&mut self, pair: &Pair<Core>, phase: Option<u32>, answer: u32, used: u64) {
+        self.reached(pair, used);
         let settles = &mut self.settles;
         settles.calls += 1;
         settles.cycles += used;

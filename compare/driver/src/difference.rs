@@ -19,6 +19,8 @@ pub struct CallDifference {
     pub expected: Outcome,
     /// The first byte that differs: address, the product's, the interpreter's.
     pub byte: Option<(usize, u8, u8)>,
+    /// Not on a boundary from a start where the product's sums are not its cycles.
+    pub sums_hold: bool,
 }
 
 impl fmt::Display for CallDifference {
@@ -29,6 +31,12 @@ impl fmt::Display for CallDifference {
             "answer: product {}, interpreter {}; used: product {}, interpreter {}",
             self.product.answer, self.expected.answer, self.product.used, self.expected.used
         )?;
+        if !self.sums_hold {
+            writeln!(
+                out,
+                "a boundary: the product's sums don't come to its cycles"
+            )?;
+        }
         writeln!(
             out,
             "{:<14}{:>10}{:>10}{:>13}",

@@ -109,7 +109,7 @@ fn vector(comparison: &mut Comparison, case: &vectors::Case, memory: &[u8]) -> C
     let (answer, used) = pair.run(case.lent as usize, count)?;
     let counts = &mut comparison.counts.plain;
     counts.images += 1;
-    counts.saw(answer, used, count);
+    counts.saw(&pair, answer, used, count);
     counts.instructions += used;
     Ok(())
 }
@@ -142,13 +142,13 @@ fn core_vector(
         let budget = u64::from(call.budget);
         counts.sees(&pair, budget);
         let (answer, used) = pair.run(lent, budget)?;
-        counts.saw(answer, used, budget);
+        counts.saw(&pair, answer, used, budget);
     }
     Ok(())
 }
 
 /// Runs by the budgets in turn until so much is used, or two calls past a stop.
-fn split<M: Compared>(
+pub fn split<M: Compared>(
     comparison: &mut Comparison,
     program: &Program,
     memory: &[u8],
@@ -163,7 +163,7 @@ fn split<M: Compared>(
     for &budget in splits.iter().cycle() {
         counts.sees(&pair, budget);
         let (answer, used) = pair.run(memory.len(), budget)?;
-        counts.saw(answer, used, budget);
+        counts.saw(&pair, answer, used, budget);
         total += used;
         after_stop += u32::from(answer != 0);
         if total >= most || after_stop > 2 {

@@ -1,8 +1,11 @@
 //! Multiplies of every m at both ends of its range: by every split, and with another Rs, word, phase,
 //! latch or stop before each of their steps.
 
+use crate::archive::*;
 use crate::comparison::{Checked, Compared, Comparison, Place};
 use crate::counts::Machines;
+use crate::odd::count;
+use crate::odd_sums;
 use crate::pair::Pair;
 use interpreter::arm::Shift;
 use interpreter::assembler::*;
@@ -19,13 +22,6 @@ const START: u64 = 2;
 const RM: u32 = 1;
 const RS: u32 = 2;
 const RN: u32 = 3;
-
-// Fields of a core.
-const FLAGS: usize = 16;
-const IX: usize = 21;
-const PHASE: usize = 23;
-const LATCHES: [usize; 3] = [24, 25, 26];
-const STOP: usize = 31;
 
 /// All forms with registers of their own, then with Rd as Rs, as Rn and as both, with Rm as Rs and
 /// as Rn, with an Rn that has no use, and under a condition.
@@ -116,12 +112,12 @@ fn counted_run<M: Compared>(
 ) -> Checked<(u32, u64)> {
     counts.sees(pair, budget);
     let (answer, used) = pair.run(pair.length, budget)?;
-    counts.saw(answer, used, budget);
+    counts.saw(pair, answer, used, budget);
     Ok((answer, used))
 }
 
 /// One after the other, and then as two budgets up to `most` and what is left.
-fn by_every_split<M: Compared>(
+pub fn by_every_split<M: Compared>(
     comparison: &mut Comparison,
     program: &Program,
     most: u64,
@@ -156,26 +152,29 @@ fn at_every_step(comparison: &mut Comparison, program: &Program, m: u32) -> Chec
             tampered(counts, &pair, &[(RS as usize, rs)])?;
             // Its last step but one, its last, and one that it lacks.
             for phase in [m + 1, m + 2, m + 3] {
-                tampered(counts, &pair, &[(RS as usize, rs), (PHASE, phase)])?;
+                tampered(counts, &pair, &[(RS as usize, rs), (CORE_PHASE, phase)])?;
             }
         }
         for phase in (0..=22).chain([0x100, 0x103, u32::MAX - 1, u32::MAX]) {
-            tampered(counts, &pair, &[(PHASE, phase)])?;
+            tampered(counts, &pair, &[(CORE_PHASE, phase)])?;
         }
-        for word in others(pair.product[IX]) {
-            tampered(counts, &pair, &[(IX, word)])?;
+        for word in others(pair.product[CORE_IX]) {
+            tampered(counts, &pair, &[(CORE_IX, word)])?;
         }
-        tampered(counts, &pair, &[(IX, 0), (IX + 1, 0)])?;
+        tampered(counts, &pair, &[(CORE_IX, 0), (CORE_IX + 1, 0)])?;
         for flags in 0..=16 {
-            tampered(counts, &pair, &[(FLAGS, flags)])?;
+            tampered(counts, &pair, &[(CORE_FLAGS, flags)])?;
         }
-        for latch in LATCHES {
+        for latch in [CORE_ADDRESS, CORE_DATUM, CORE_BASE] {
             for value in [1, 4, 0x40, 0xFFFF_FFFC] {
                 tampered(counts, &pair, &[(latch, value)])?;
             }
         }
         for stop in 20..=26 {
-            tampered(counts, &pair, &[(STOP, stop)])?;
+            tampered(counts, &pair, &[(CORE_STOP, stop)])?;
+        }
+        for sums in odd_sums::close(count(&pair.product, CORE_CYCLES)) {
+            tampered(counts, &pair, &odd_sums::fields(sums))?;
         }
     }
     Ok(())
@@ -212,16 +211,14 @@ fn others(word: u32) -> Vec<u32> {
 /// A copy with these fields changed, run by nothing, by one cycle and then to the end.
 fn tampered(counts: &mut Machines, pair: &Pair<Core>, fields: &[(usize, u32)]) -> Checked<()> {
     let mut pair = pair.clone();
-    for &(field, value) in fields {
-        pair.set(field, value);
-    }
+    pair.set_all(fields);
     counts.tampered += 1;
     let (answer, _) = pair.run(pair.length, 0)?;
     counts.tampered_bad += u64::from(answer == 11);
-    counts.saw(answer, 0, 0);
+    counts.saw(&pair, answer, 0, 0);
     for budget in [1, 40] {
         let (answer, used) = pair.run(pair.length, budget)?;
-        counts.saw(answer, used, budget);
+        counts.saw(&pair, answer, used, budget);
     }
     Ok(())
 }

@@ -1,8 +1,9 @@
 //! One machine in the product and in the interpreter, held together call by call.
 
-use crate::archive::{self, CoreArray, PlainArray};
+use crate::archive::{self, CoreArray, PlainArray, CORE_CYCLES, CORE_LENGTH, CORE_PHASE};
 use crate::difference::{CallDifference, Outcome};
-use crate::records;
+use crate::odd::count;
+use crate::{odd_sums, records};
 use interpreter::answers::{BAD_RECORD, OTHER_MEMORY};
 use interpreter::memory;
 use interpreter::pipeline::Core;
@@ -20,6 +21,9 @@ pub trait Machine: Clone {
     fn advance(self, memory: &mut [u8], budget: u64) -> (u32, u64, Self);
     fn array(&self) -> Self::Array;
     fn of(array: &Self::Array) -> Option<Self>;
+    /// On a boundary, whether the sums together are the cycles, as they are from a start on. Where
+    /// there are no sums there is nothing to tell.
+    fn sums_hold(array: &Self::Array) -> Option<bool>;
 
     fn product_begin(r: &[u32; 15], flags: u32, entry: u32, memory: &[u8]) -> (u32, Self::Array);
     fn product_advance(array: &mut Self::Array, memory: &mut [u8], budget: u64) -> (u32, u64);
@@ -29,7 +33,7 @@ impl Machine for Core {
     type Array = CoreArray;
     const KIND: &'static str = "core";
     const NAMES: &'static [&'static str] = &records::CORE_NAMES;
-    const LENGTH: usize = 32;
+    const LENGTH: usize = CORE_LENGTH;
 
     fn begin(r: [u32; 15], flags: u32, entry: u32, memory: &[u8]) -> (u32, Core) {
         Core::start(r, flags, entry, memory)
@@ -45,6 +49,11 @@ impl Machine for Core {
 
     fn of(array: &CoreArray) -> Option<Core> {
         records::core_of(array)
+    }
+
+    fn sums_hold(array: &CoreArray) -> Option<bool> {
+        let together: u128 = odd_sums::of(array).into_iter().map(u128::from).sum();
+        (array[CORE_PHASE] == 0).then(|| together == count(array, CORE_CYCLES).into())
     }
 
     fn product_begin(r: &[u32; 15], flags: u32, entry: u32, memory: &[u8]) -> (u32, CoreArray) {
@@ -79,6 +88,10 @@ impl Machine for Plain {
         Some(records::plain_of(array))
     }
 
+    fn sums_hold(_: &PlainArray) -> Option<bool> {
+        None
+    }
+
     fn product_begin(r: &[u32; 15], flags: u32, entry: u32, memory: &[u8]) -> (u32, PlainArray) {
         archive::plain_start(r, flags, entry, memory)
     }
@@ -100,6 +113,8 @@ pub struct Pair<M: Machine> {
     expected_memory: Vec<u8>,
     /// The memory's length.
     pub length: usize,
+    /// From a start, and no field set since.
+    untouched: bool,
 }
 
 impl<M: Machine> Pair<M> {
@@ -120,6 +135,7 @@ impl<M: Machine> Pair<M> {
             expected: Some(expected),
             expected_memory: buffer,
             length: memory.len(),
+            untouched: true,
         };
         let wanted = pair.wanted();
         if answer != expected_answer || pair.product != wanted {
@@ -144,6 +160,7 @@ impl<M: Machine> Pair<M> {
             product_memory: buffer.clone(),
             expected_memory: buffer,
             length: memory.len(),
+            untouched: false,
         }
     }
 
@@ -151,6 +168,19 @@ impl<M: Machine> Pair<M> {
     pub fn set(&mut self, field: usize, value: u32) {
         self.product.as_mut()[field] = value;
         self.expected = M::of(&self.product);
+        self.untouched = false;
+    }
+
+    /// The same with these fields changed.
+    pub fn set_all(&mut self, fields: &[(usize, u32)]) {
+        for &(field, value) in fields {
+            self.set(field, value);
+        }
+    }
+
+    /// On a boundary that is reached from a start, whether the product's sums are its cycles.
+    pub fn sums_hold(&self) -> Option<bool> {
+        M::sums_hold(&self.product).filter(|_| self.untouched)
     }
 
     /// Makes room for so many bytes and calls them the memory.
@@ -225,7 +255,7 @@ impl<M: Machine> Pair<M> {
             && used == expected_used
             && self.product == wanted
             && self.product_memory == self.expected_memory;
-        if agrees {
+        if agrees && self.sums_hold() != Some(false) {
             return Ok((answer, used));
         }
         Err(self.difference(
@@ -264,6 +294,7 @@ impl<M: Machine> Pair<M> {
                 record: wanted.as_ref().to_vec(),
             },
             byte,
+            sums_hold: self.sums_hold() != Some(false),
         })
     }
 }

@@ -117,7 +117,7 @@ fn random_image<M: Compared>(
         };
         counts.sees(&pair, budget);
         let (answer, used) = pair.run(pair.length, budget)?;
-        counts.saw(answer, used, budget);
+        counts.saw(&pair, answer, used, budget);
         total += used;
         if random.chance(settles, 40) {
             M::settle(counts, &mut pair, memory.len())?;
@@ -129,7 +129,7 @@ fn random_image<M: Compared>(
     }
     if random.chance(1, 300) {
         let (answer, used) = pair.run(pair.length, 1_000_000)?;
-        counts.saw(answer, used, 1_000_000);
+        counts.saw(&pair, answer, used, 1_000_000);
         total += used;
     }
     counts.instructions += M::instructions(&pair, total);
@@ -176,7 +176,7 @@ fn refused<M: Compared>(
         u64::from(random.below(3))
     };
     let (answer, used) = pair.run(lent, budget)?;
-    counts.saw(answer, used, budget);
+    counts.saw(pair, answer, used, budget);
     if lent != length {
         M::settle(counts, pair, lent)?;
     }
@@ -196,7 +196,7 @@ fn poke<M: Compared>(counts: &mut Machines, pair: &mut Pair<M>, random: &mut Ran
     counts.pokes += 1;
 }
 
-/// Each field at odd values, then a few fields together, on copies.
+/// Each field at odd values, then a few fields together, and those that go together, on copies.
 fn tamper<M: Compared>(counts: &mut Machines, pair: &Pair<M>, random: &mut Random) -> Checked<()> {
     let length = pair.length as u32;
     for field in 0..M::NAMES.len() {
@@ -209,14 +209,18 @@ fn tamper<M: Compared>(counts: &mut Machines, pair: &Pair<M>, random: &mut Rando
         let mut copy = pair.clone();
         for _ in 0..random.below(6) + 2 {
             let field = random.pick(M::TOGETHER);
-            let old = copy.product.as_ref()[field];
             let value = if random.chance(3, 4) {
-                odd::likely(random, field, old, length)
+                odd::likely(random, field, copy.product.as_ref(), length)
             } else {
-                odd::value(random, old, length)
+                odd::value(random, copy.product.as_ref()[field], length)
             };
             copy.set(field, value);
         }
+        run_tampered(counts, copy, random)?;
+    }
+    for set in M::made_up(random, pair.product.as_ref()) {
+        let mut copy = pair.clone();
+        copy.set_all(&set);
         run_tampered(counts, copy, random)?;
     }
     Ok(())
@@ -243,10 +247,10 @@ fn run_tampered<M: Compared>(
     }
     let (answer, used) = pair.run(lent, budget)?;
     counts.tampered_bad += u64::from(answer == 11);
-    counts.saw(answer, used, budget);
+    counts.saw(&pair, answer, used, budget);
     if answer == 0 {
         let (answer, used) = pair.run(lent, 1)?;
-        counts.saw(answer, used, 1);
+        counts.saw(&pair, answer, used, 1);
     }
     // Where the run was refused the record is still as it was tampered with.
     M::settle(counts, &mut pair, lent)

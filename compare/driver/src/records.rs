@@ -8,7 +8,7 @@ use interpreter::plain::Plain;
 
 pub use interpreter::pipeline::{core_array, core_of};
 
-pub const CORE_NAMES: [&str; 33] = [
+pub const CORE_NAMES: [&str; 39] = [
     "r0",
     "r1",
     "r2",
@@ -42,6 +42,12 @@ pub const CORE_NAMES: [&str; 33] = [
     "retired high",
     "stop",
     "length",
+    "sum n",
+    "sum n high",
+    "sum s",
+    "sum s high",
+    "sum i",
+    "sum i high",
 ];
 
 pub const PLAIN_NAMES: [&str; 19] = [

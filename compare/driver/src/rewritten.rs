@@ -1,5 +1,6 @@
 //! Images rewritten between calls where the core has fetched other words.
 
+use crate::archive::CORE_PC;
 use crate::arguments::Asked;
 use crate::comparison::{counted_settle, Checked, Compared, Comparison, Place};
 use crate::counts::LONG;
@@ -105,7 +106,7 @@ fn counted_run(
     counts.sees(pair, budget);
     let before = Core::instructions(pair, 0);
     let (answer, used) = pair.run(pair.length, budget)?;
-    counts.saw(answer, used, budget);
+    counts.saw(pair, answer, used, budget);
     counts.instructions += Core::instructions(pair, used) - before;
     Ok((answer, used))
 }
@@ -129,7 +130,7 @@ fn to_boundary(comparison: &mut Comparison, pair: &mut Pair<Core>) -> Checked<()
 /// Other words for A, A+4 or both, now and then A+8 too, as they are at a boundary: which, by
 /// address.
 fn rewrite(pair: &mut Pair<Core>, random: &mut Random) -> Vec<(u32, u32)> {
-    let pc = pair.product[15];
+    let pc = pair.product[CORE_PC];
     let mut written = Vec::new();
     for before in random.pick(&[&[4][..], &[4], &[8], &[8, 4], &[8, 4], &[4, 0]]) {
         let address = pc.wrapping_sub(*before);

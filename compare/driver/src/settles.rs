@@ -1,8 +1,11 @@
 //! Settles of every class: after budgets that end before each step and refill, and of copies with
 //! other fields, other memory and cycles near the most.
 
+use crate::archive::*;
 use crate::comparison::{counted_settle, Checked, Comparison, Place};
 use crate::counts::Machines;
+use crate::odd::count;
+use crate::odd_sums::{self, long};
 use crate::pair::Pair;
 use interpreter::arm::{decode, Instruction, Shift};
 use interpreter::assembler::*;
@@ -23,23 +26,12 @@ const FAR: u64 = 2 + 20 + 2;
 
 const MOST_CYCLES: u64 = 1 << 40;
 
-/// The register of Rs.
-const RS: u32 = 2;
-
-// Fields of a core.
-const PC_FIELD: usize = 15;
-const FLAGS: usize = 16;
-const IR1: usize = 17;
-const IR2: usize = 19;
-const IX: usize = 21;
-const PHASE: usize = 23;
-const ADDRESS: usize = 24;
-const DATUM: usize = 25;
-const BASE: usize = 26;
-const CYCLES: usize = 27;
-const RETIRED: usize = 29;
-const STOP: usize = 31;
-const LENGTH: usize = 32;
+/// The registers of the target and of the data, of Rs, and of an amount that turns a register back to
+/// what it was.
+pub const AT_TARGET: u32 = 0;
+pub const AT_DATA: u32 = 1;
+pub const RS: u32 = 2;
+pub const TURN: u32 = 4;
 
 pub fn all(comparison: &mut Comparison) {
     let words = words();
@@ -128,7 +120,7 @@ fn stops() -> [u32; 5] {
 }
 
 /// The word, and behind it and at the target words that use what it leaves, and a stop.
-fn image(word: u32, rs: u32) -> Program {
+pub fn image(word: u32, rs: u32) -> Program {
     let mut words = vec![0; WORDS];
     words[ENTRY as usize / 4..][..4].copy_from_slice(&[
         word,
@@ -176,14 +168,14 @@ fn after_each_budget(comparison: &mut Comparison, program: &Program) -> Checked<
     Ok(())
 }
 
-fn run(counts: &mut Machines, pair: &mut Pair<Core>, budget: u64) -> Checked<u32> {
+pub fn run(counts: &mut Machines, pair: &mut Pair<Core>, budget: u64) -> Checked<u32> {
     counts.sees(pair, budget);
     let (answer, used) = pair.run(pair.length, budget)?;
-    counts.saw(answer, used, budget);
+    counts.saw(pair, answer, used, budget);
     Ok(answer)
 }
 
-fn settle(counts: &mut Machines, pair: &mut Pair<Core>) -> Checked<u32> {
+pub fn settle(counts: &mut Machines, pair: &mut Pair<Core>) -> Checked<u32> {
     let (answer, _) = counted_settle(counts, pair, pair.length)?;
     Ok(answer)
 }
@@ -222,22 +214,15 @@ fn elsewhere(counts: &mut Machines, pair: &Pair<Core>) -> Checked<()> {
 /// At cycles from which the most would be reached, missed and passed, whatever is left.
 fn near_the_most(counts: &mut Machines, pair: &Pair<Core>) -> Checked<()> {
     for before in 0..=FAR {
-        tampered(counts, pair, &long(CYCLES, MOST_CYCLES - before))?;
+        tampered(counts, pair, &long(CORE_CYCLES, MOST_CYCLES - before))?;
     }
-    tampered(counts, pair, &long(CYCLES, MOST_CYCLES + 1))
-}
-
-/// A count of 64 bits.
-fn long(field: usize, value: u64) -> [(usize, u32); 2] {
-    [(field, value as u32), (field + 1, (value >> 32) as u32)]
+    tampered(counts, pair, &long(CORE_CYCLES, MOST_CYCLES + 1))
 }
 
 /// A copy with these fields changed, settled twice, run by a cycle and settled.
-fn tampered(counts: &mut Machines, pair: &Pair<Core>, fields: &[(usize, u32)]) -> Checked<()> {
+pub fn tampered(counts: &mut Machines, pair: &Pair<Core>, fields: &[(usize, u32)]) -> Checked<()> {
     let mut pair = pair.clone();
-    for &(field, value) in fields {
-        pair.set(field, value);
-    }
+    pair.set_all(fields);
     counts.tampered += 1;
     let answer = settle(counts, &mut pair)?;
     counts.tampered_bad += u64::from(answer == 11);
@@ -257,32 +242,33 @@ fn others(pair: &Pair<Core>) -> Vec<Vec<(usize, u32)>> {
     let phases: Vec<u32> = (0..=20)
         .chain([0x103, 1 << 31, u32::MAX - 1, u32::MAX])
         .collect();
-    each(PHASE, &phases);
-    each(IX, &in_the_place_of(array[IX]));
-    each(FLAGS, &(0..=16).collect::<Vec<u32>>());
+    each(CORE_PHASE, &phases);
+    each(CORE_IX, &in_the_place_of(array[CORE_IX]));
+    each(CORE_FLAGS, &(0..=16).collect::<Vec<u32>>());
     let near = [0, 4, 0x7E, 0x80, 0xB8, 0xBC, 0xBF, 0xC0, 0xFFFF_FFFC];
-    each(ADDRESS, &near);
-    each(DATUM, &[1, 0x8000_0000]);
-    each(BASE, &[1, 0x84]);
-    each(STOP, &(20..=26).collect::<Vec<u32>>());
-    each(PC_FIELD, &[0, 2, 0xBC, 0xC0, 0x03FF_FFFC, 0x0400_0000]);
-    each(LENGTH, &[0, 12, 0xBC, 0xC4, 65_536, 65_540]);
-    if multiplies(array[IX]) {
+    each(CORE_ADDRESS, &near);
+    each(CORE_DATUM, &[1, 0x8000_0000]);
+    each(CORE_BASE, &[1, 0x84]);
+    each(CORE_STOP, &(20..=26).collect::<Vec<u32>>());
+    each(CORE_PC, &[0, 2, 0xBC, 0xC0, 0x03FF_FFFC, 0x0400_0000]);
+    each(CORE_LENGTH, &[0, 12, 0xBC, 0xC4, 65_536, 65_540]);
+    if multiplies(array[CORE_IX]) {
         let ends: Vec<u32> = (1..=16).flat_map(ends).collect();
         each(RS as usize, &ends);
     }
-    for field in [IR1, IR2, IX] {
+    for field in [CORE_IR1, CORE_IR2, CORE_IX] {
         // Another word and none; then what stands for no core.
         others.push(vec![(field, mov(9, number(9))), (field + 1, 1)]);
         others.push(vec![(field, 0), (field + 1, 0)]);
         others.push(vec![(field, 1), (field + 1, 0)]);
         others.push(vec![(field + 1, 2)]);
-        others.push(vec![(field + 1, 2), (LENGTH, 64)]);
+        others.push(vec![(field + 1, 2), (CORE_LENGTH, 64)]);
     }
-    let cycles = array[CYCLES];
-    others.push(vec![(RETIRED, cycles)]);
-    others.push(vec![(RETIRED, cycles + 1)]);
-    others.push(vec![(RETIRED + 1, 1)]);
+    let cycles = array[CORE_CYCLES];
+    others.push(vec![(CORE_RETIRED, cycles)]);
+    others.push(vec![(CORE_RETIRED, cycles + 1)]);
+    others.push(vec![(CORE_RETIRED + 1, 1)]);
+    others.extend(odd_sums::about(count(&array, CORE_CYCLES)));
     others
 }
 

@@ -68,13 +68,13 @@ fn start_and_run<M: Compared>(
     ] {
         M::settle(counts, &mut pair.clone(), lent)?;
         let (answer, used) = pair.run(lent, budget)?;
-        counts.saw(answer, used, budget);
+        counts.saw(&pair, answer, used, budget);
     }
     // On from the boundary that a settle reaches at once.
     for (lent, budget) in [(0, 0), (length, 1), (length, 2), (length + 4, 0)] {
         M::settle(counts, &mut settled, lent)?;
         let (answer, used) = settled.run(lent, budget)?;
-        counts.saw(answer, used, budget);
+        counts.saw(&pair, answer, used, budget);
     }
     Ok(())
 }

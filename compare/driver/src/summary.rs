@@ -70,6 +70,10 @@ fn machines(core: &Machines, plain: &Machines) -> String {
         row("instructions, but for starts and tampered records", |of| {
             of.instructions
         }),
+        row(
+            "boundaries from a start, the sums coming to the cycles",
+            |of| of.boundaries,
+        ),
         row("bytes of the memory changed between calls", |of| of.pokes),
         row("tampered records run or settled", |of| of.tampered),
         row("  of these found bad", |of| of.tampered_bad),

@@ -291,6 +291,20 @@ pub fn forbidden(instruction: &Instruction) -> bool {
     }
 }
 
+/// Can an instruction of this word store the counter, whatever the state it runs in? It runs on
+/// some flags, breaks no rule by itself, and writes R15.
+pub fn can_store_counter(word: u32) -> bool {
+    let instruction = decode(word);
+    let writes_r15 = match instruction {
+        Instruction::Processing(it) => it.rd == 15 && !it.only_compares(),
+        Instruction::Single(it) => it.load && it.rd == 15,
+        Instruction::Block(it) => it.load && bit(it.list, 15),
+        Instruction::Branch(_) => true,
+        Instruction::Multiply(_) | Instruction::Other => false,
+    };
+    (0..16).any(|flags| passes(word >> 28, flags)) && !forbidden(&instruction) && writes_r15
+}
+
 /// A shifter's value and its carry.
 #[derive(Clone, Copy, Debug, PartialEq, Eq)]
 pub struct Shifted {

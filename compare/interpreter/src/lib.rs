@@ -15,4 +15,5 @@ pub mod programs;
 pub mod random;
 pub mod reports;
 pub mod settle;
+pub mod sums;
 pub mod vectors;

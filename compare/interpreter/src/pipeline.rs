@@ -3,11 +3,12 @@
 
 use crate::answers::*;
 use crate::arm::{
-    compute, constant, counter, counter_of, cycles_by_rs, decode, decode_inline, decode_multiply,
-    forbidden, passes, product, r15_word, shift_by_amount, shift_by_register, Block, Branch,
-    Instruction, Multiply, Offset, Operand, Processing, Shifted, Single, C,
+    can_store_counter, compute, constant, counter, counter_of, cycles_by_rs, decode, decode_inline,
+    decode_multiply, forbidden, passes, product, r15_word, shift_by_amount, shift_by_register,
+    Block, Branch, Instruction, Multiply, Offset, Operand, Processing, Shifted, Single, C,
 };
 use crate::memory;
+use crate::sums::{alone, before_refills, loading, storing, Sums, REFILLS};
 
 /// What the next cycle does.
 #[derive(Clone, Copy, Debug, PartialEq, Eq)]
@@ -35,6 +36,8 @@ pub struct Core {
     pub base: u32,
     pub cycles: u64,
     pub retired: u64,
+    /// What the start and the instructions retired came to.
+    pub sums: Sums,
     pub stop: u32,
     pub length: u32,
 }
@@ -55,6 +58,7 @@ impl Core {
             base: 0,
             cycles: 0,
             retired: 0,
+            sums: Sums::default(),
             stop: 0,
             length: 0,
         }
@@ -112,13 +116,20 @@ impl Core {
             || self.flags > 15
             || self.cycles > MOST_CYCLES
             || self.retired > self.cycles
+            || self.sums.together() > self.cycles.into()
             || !stop_is_known(self.stop);
         let bad_phase = match self.phase {
             Phase::Step(1) => false,
-            Phase::Refill1 | Phase::Refill2 => self.stop != 0,
+            Phase::Refill1 | Phase::Refill2 => self.stop != 0 || !self.can_be_refilled(),
             Phase::Step(step) => self.stop != 0 || !self.can_be_in(step),
         };
         bad_number || bad_phase
+    }
+
+    /// Can a refill be the next one? Without a word it is the start's. What the flags were when the
+    /// word was done can't be told any more.
+    fn can_be_refilled(&self) -> bool {
+        self.ix.is_none_or(can_store_counter)
     }
 
     /// Can a step other than 1 be the next one, by IX, the flags, the address latch and, where it
@@ -217,9 +228,10 @@ impl Core {
         self.ix = self.ir2;
     }
 
-    /// The boundary after an instruction.
-    fn retire(&mut self) {
+    /// The boundary after an instruction, by what its own steps came to.
+    fn retire(&mut self, own: Sums) {
         self.retired += 1;
+        self.sums.add(own);
         self.boundary();
     }
 
@@ -237,8 +249,9 @@ impl Core {
     /// The start's refills have IX blank.
     fn refill_2(&mut self, memory: &[u8]) {
         self.fetch(memory);
-        if self.ix.is_some() {
-            self.retire();
+        self.sums.add(REFILLS);
+        if let Some(word) = self.ix {
+            self.retire(before_refills(word));
         } else {
             self.boundary();
         }
@@ -259,7 +272,7 @@ impl Core {
         let word = self.ix.ok_or(NO_WORD)?;
         if !passes(word >> 28, self.flags) {
             self.fetch(memory);
-            self.retire();
+            self.retire(alone(0));
             return Ok(());
         }
         let instruction = decode_inline(word);
@@ -287,13 +300,13 @@ impl Core {
             }
             Operand::Constant { rotation, value } => constant(rotation, value, self.carry()),
         };
-        self.operate(it, operand, r15);
+        self.operate(it, operand, r15, alone(0));
     }
 
     /// The only or the second step of a processing word: `r15` is what Rn reads as 15. It has two
     /// callers, hence the attribute.
     #[inline(always)]
-    fn operate(&mut self, it: &Processing, operand: Shifted, r15: u32) {
+    fn operate(&mut self, it: &Processing, operand: Shifted, r15: u32, own: Sums) {
         let rn = if it.rn == 15 { r15 } else { self.r[it.rn] };
         let computed = compute(it.operation, rn, operand, self.flags);
         if it.sets && it.rd == 15 {
@@ -302,19 +315,19 @@ impl Core {
             self.flags = computed.flags;
         }
         if it.only_compares() {
-            self.retire();
+            self.retire(own);
         } else {
-            self.write_last(it.rd, computed.result);
+            self.write_last(it.rd, computed.result, own);
         }
     }
 
-    /// The last own step writes a register, or the counter.
-    fn write_last(&mut self, name: usize, value: u32) {
+    /// The last own step writes a register, or the counter, after which refill 2 retires.
+    fn write_last(&mut self, name: usize, value: u32, own: Sums) {
         if name == 15 {
             self.store_counter(counter_of(value));
         } else {
             self.r[name] = value;
-            self.retire();
+            self.retire(own);
         }
     }
 
@@ -438,12 +451,12 @@ impl Core {
         };
         let value = self.read_with_flags(rm, self.pc);
         let operand = shift_by_register(shift, self.r[rs], value, self.carry());
-        self.operate(it, operand, self.pc);
+        self.operate(it, operand, self.pc, alone(1));
     }
 
     fn single_step(&mut self, it: &Single, step: u32, memory: &mut [u8]) {
         if step == 3 {
-            return self.write_last(it.rd, self.data);
+            return self.write_last(it.rd, self.data, loading(1));
         }
         if it.writes_base() {
             self.r[it.rn] = self.base;
@@ -454,14 +467,14 @@ impl Core {
             self.data = value;
         } else {
             memory::store(memory, self.address, self.data, it.byte);
-            self.retire();
+            self.retire(storing(1));
         }
     }
 
     fn block_load_step(&mut self, it: &Block, step: u32, memory: &[u8]) {
         let n = it.list.count_ones();
         if step == n + 2 {
-            return self.write_last(nth_name(it.list, n - 1), self.data);
+            return self.write_last(nth_name(it.list, n - 1), self.data, loading(n));
         }
         if step > 2 {
             self.r[nth_name(it.list, step - 3)] = self.data;
@@ -477,13 +490,14 @@ impl Core {
     }
 
     fn block_store_step(&mut self, it: &Block, step: u32, memory: &mut [u8]) {
+        let n = it.list.count_ones();
         let address = self.address;
         memory::set_word(memory, address, self.data);
         if step == 2 && it.w {
             self.r[it.rn] = self.base;
         }
-        if step == it.list.count_ones() + 1 {
-            return self.retire();
+        if step == n + 1 {
+            return self.retire(storing(n));
         }
         self.leave(Phase::Step(step + 1));
         self.address = address.wrapping_add(4);
@@ -493,7 +507,8 @@ impl Core {
     /// Rs stays as it is until the last step, so that it tells in each which one that is.
     fn multiply_step(&mut self, it: &Multiply, step: u32) {
         let rs = self.r[it.rs];
-        if step <= cycles_by_rs(rs) {
+        let m = cycles_by_rs(rs);
+        if step <= m {
             return self.leave(Phase::Step(step + 1));
         }
         let more = if it.accumulate { self.r[it.rn] } else { 0 };
@@ -502,7 +517,7 @@ impl Core {
             self.flags = computed.flags;
         }
         self.r[it.rd] = computed.result;
-        self.retire();
+        self.retire(alone(m));
     }
 }
 
@@ -514,7 +529,7 @@ fn nth_name(list: u32, earlier: u32) -> usize {
 
 // The record as the array of words that slot_core.h lays out, and back.
 
-pub const WORDS: usize = 33;
+pub const WORDS: usize = 39;
 
 pub fn core_array(core: &Core) -> [u32; WORDS] {
     let mut array = [0; WORDS];
@@ -534,10 +549,12 @@ pub fn core_array(core: &Core) -> [u32; WORDS] {
     array[24] = core.address;
     array[25] = core.data;
     array[26] = core.base;
-    array[27] = core.cycles as u32;
-    array[28] = (core.cycles >> 32) as u32;
-    array[29] = core.retired as u32;
-    array[30] = (core.retired >> 32) as u32;
+    let Sums { n, s, i } = core.sums;
+    let counts = [(27, core.cycles), (29, core.retired)];
+    for (place, long) in counts.into_iter().chain([(33, n), (35, s), (37, i)]) {
+        array[place] = long as u32;
+        array[place + 1] = (long >> 32) as u32;
+    }
     array[31] = core.stop;
     array[32] = core.length;
     array
@@ -569,6 +586,11 @@ pub fn core_of(array: &[u32; WORDS]) -> Option<Core> {
         base: array[26],
         cycles: long(27),
         retired: long(29),
+        sums: Sums {
+            n: long(33),
+            s: long(35),
+            i: long(37),
+        },
         stop: array[31],
         length: array[32],
     })

@@ -2,6 +2,7 @@
 
 mod common;
 
+use common::table::{plus, sums, START};
 use common::{memory, registers};
 use interpreter::arm::Shift;
 use interpreter::assembler::*;
@@ -69,6 +70,7 @@ fn a_start() {
         ix: Some(0xF000_0003),
         phase: Step(1),
         cycles: 2,
+        sums: START,
         ..one
     };
     assert_eq!(core, two);
@@ -80,6 +82,7 @@ fn a_start() {
         ix: Some(0xF000_0004),
         cycles: 3,
         retired: 1,
+        sums: sums([1, 2, 0]),
         ..two
     };
     assert_eq!(core, three);
@@ -160,6 +163,29 @@ fn a_stored_counter() {
         (Step(1), 0x48, 1, 5)
     );
     assert_eq!((core.ir1, core.ir2, core.ix), (second, first, first));
+}
+
+/// Neither the last own step nor refill 1 adds to the sums.
+#[test]
+fn sums_of_a_stored_counter() {
+    let r = registers(&[(1, 0x43), (2, 32)]);
+    let words = [
+        (mov(15, plain(1)), 3, [1, 2, 0]),
+        (mov(15, by_register(1, Shift::Ror, 2)), 4, [1, 2, 1]),
+        (branch_link(-3), 3, [1, 2, 0]),
+        (ldr(15, 1, 0), 5, [2, 2, 1]),
+        (block(LOAD | UP, 1, list(&[0, 4, 15])), 7, [2, 4, 1]),
+    ];
+    for (word, cycles, more) in words {
+        let (mut core, mut lent) = before(word, r, 0);
+        for _ in 1..cycles {
+            (_, _, core) = core.run(&mut lent, 1);
+            assert_eq!((core.sums, core.retired), (START, 0), "{word:08X}");
+        }
+        assert_eq!(core.phase, Refill2);
+        (_, _, core) = core.run(&mut lent, 1);
+        assert_eq!((core.sums, core.retired), (plus(START, sums(more)), 1));
+    }
 }
 
 #[test]
@@ -379,6 +405,7 @@ fn a_multiply() {
                 ix: at_12,
                 cycles: 3 + u64::from(m),
                 retired: 1,
+                sums: plus(START, sums([0, 1, m.into()])),
                 ..core
             };
             assert_eq!(now, done, "{word:08X} by {rs:X}");

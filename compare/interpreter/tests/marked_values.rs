@@ -2,6 +2,7 @@
 
 mod common;
 
+use common::table::sums;
 use common::{memory, one, registers};
 use interpreter::arm::{constant, shift_by_amount, shift_by_register, Shift, Shifted};
 use interpreter::assembler::*;
@@ -190,6 +191,67 @@ fn multiplies() {
     assert_eq!(flagged(mla(0, 1, 0, 0), &own, 0), (40, 0));
 }
 
+/// Each row of the table of ticks, and S+N more for each counter stored but a branch's.
+#[test]
+fn what_a_retirement_adds() {
+    let eight = by_register(0, Shift::Lsr, 2);
+    let rows = [
+        (on(0, branch_link(4)), [0, 1, 0]),
+        (on(0, block(LOAD | UP, 1, 0xFFFF)), [0, 1, 0]),
+        (on(NEVER, mul(3, 15, 2)), [0, 1, 0]),
+        (on(NEVER, SWI), [0, 1, 0]),
+        (ops(ADC, 3, 15, number(1)), [0, 1, 0]),
+        (mov(3, by_amount(1, Shift::Ror, 0)), [0, 1, 0]),
+        (ops(TEQ, 15, 1, number(1)), [0, 1, 0]),
+        (movs(15, plain(1)), [1, 2, 0]),
+        (mov(3, eight), [0, 1, 1]),
+        (ops(CMN, 15, 3, eight), [0, 1, 1]),
+        (mov(15, eight), [1, 2, 1]),
+        (ldr(3, 1, 2), [1, 1, 1]),
+        (single(LOAD | BYTE | UP, 1, 1, 3), [1, 1, 1]),
+        (ldr(15, 1, 0), [2, 2, 1]),
+        (str(3, 1, 0), [2, 0, 0]),
+        (single(STORE | BYTE | UP, 1, 1, 3), [2, 0, 0]),
+        (str(15, 1, 0), [2, 0, 0]),
+        (block(LOAD | UP, 1, list(&[3])), [1, 1, 1]),
+        (block(LOAD | UP | W, 1, 0x7FFF), [1, 15, 1]),
+        (block(LOAD | UP, 1, 1 << 15), [2, 2, 1]),
+        (block(LOAD | UP, 1, 0xFFFF), [2, 17, 1]),
+        (block(STORE | UP, 1, list(&[3])), [2, 0, 0]),
+        (block(STORE | UP, 1, 1 << 15), [2, 0, 0]),
+        (block(STORE | UP | W, 1, 0xFFFF), [2, 15, 0]),
+        (branch(4), [1, 2, 0]),
+        (branch_link(-1), [1, 2, 0]),
+        (mul(3, 1, 2), [0, 1, 4]),
+        (mlas(3, 1, 2, 4), [0, 1, 4]),
+        // The results are far above Rs and 0.
+        (mul(2, 5, 2), [0, 1, 4]),
+        (muls(2, 6, 2), [0, 1, 4]),
+        (mla(5, 1, 5, 5), [0, 1, 16]),
+        // These stop.
+        (SWI, [0, 0, 0]),
+        (mul(3, 3, 2), [0, 0, 0]),
+        (ldr(3, 5, 0), [0, 0, 0]),
+        (str(3, 15, 0), [0, 0, 0]),
+    ];
+    let r = registers(&[(0, 0x30), (1, 0x40), (2, 0x20), (5, u32::MAX)]);
+    for (word, wanted) in rows {
+        let after = one(memory(128, &[]), 8, word, r, 0);
+        assert_eq!(after.sums, sums(wanted), "{word:08X}");
+        assert_eq!(after.sums.together(), after.cycles.into(), "{word:08X}");
+    }
+}
+
+#[test]
+fn ticks() {
+    let ticks = |numbers| sums(numbers).ticks();
+    assert_eq!(ticks([0, 0, 0]), 0);
+    assert_eq!(ticks([1, 0, 0]), 2);
+    assert_eq!(ticks([0, 1, 0]), 1);
+    assert_eq!(ticks([0, 0, 1]), 1);
+    assert_eq!(ticks([1 << 40, 0, 0]), 1 << 41);
+}
+
 #[test]
 fn forbidden_multiplies() {
     let words = [
@@ -225,6 +287,9 @@ fn the_report() {
         (0x14, 21, 11, 6)
     );
     assert_eq!((core.r, core.stop), ([0; 15], 22));
+    // The start, MOV, SUBS five times, the branch four times and once on a failed condition.
+    assert_eq!(core.sums, sums([1 + 4, 1 + 1 + 5 + 8 + 1, 0]));
+    assert_eq!(core.sums.ticks(), 26);
 }
 
 #[test]

@@ -3,14 +3,14 @@
 mod common;
 
 use common::memory;
-use common::records::{any_core, bad_cores, good};
+use common::records::{any_core, bad_cores, good, sums_are_good};
 use interpreter::arm::{decode, Instruction, Shift};
 use interpreter::assembler::*;
 use interpreter::durations::ends;
 use interpreter::pipeline::{Core, Phase};
 use interpreter::plain::Plain;
 use interpreter::random::Random;
-use Phase::{Refill2, Step};
+use Phase::{Refill1, Refill2, Step};
 
 #[test]
 fn starts() {
@@ -412,11 +412,13 @@ fn words_still_to_be_moved() {
 }
 
 /// However a record came about: a refused run changes nothing, and an accepted one doesn't care
-/// how its budget is split, and hands back a record that is good again.
+/// how its budget is split, and hands back a record that is good again, unless it stands where the
+/// sums have passed the cycles.
 #[test]
 fn any_records() {
     let mut random = Random::new(7);
     let (mut refused, mut accepted, mut later, mut multiplies) = (0, 0, 0, 0);
+    let (mut refills, mut passed_midway, mut passed) = (0, 0, 0);
     for _ in 0..60_000 {
         let core = any_core(&mut random);
         let image: Vec<u32> = (0..16)
@@ -438,24 +440,34 @@ fn any_records() {
             let instruction = core.ix.map(decode);
             multiplies += u64::from(matches!(instruction, Some(Instruction::Multiply(_))));
         }
+        let in_refill = matches!(core.phase, Refill1 | Refill2);
+        refills += u64::from(in_refill && core.ix.is_some());
         assert_eq!(after.cycles, core.cycles + used);
         assert_eq!(answer == 0, used == budget && after.stop == 0);
 
         let mut split = lent.clone();
         let first = u64::from(random.below(budget as u32 + 1));
         let (early, one, middle) = core.clone().run(&mut split, first);
+        let midway = sums_are_good(&middle);
         let (late, two, end) = middle.run(&mut split, budget - first);
+        if !midway {
+            passed_midway += 1;
+            assert_eq!((late, two), (11, 0));
+            continue;
+        }
         // A held stop is answered again; a stop found early leaves the rest unused.
         assert!(early == 0 || early == answer);
         assert_eq!(
             (late, one + two, &end, &split),
             (answer, used, &after, &whole)
         );
+        let still_good = sums_are_good(&after);
+        passed += u64::from(!still_good);
+        let expected = if still_good { after.stop } else { 11 };
         let (again, none, same) = after.clone().run(&mut whole, 0);
-        assert_eq!((again, none, &same), (after.stop, 0, &after));
+        assert_eq!((again, none, &same), (expected, 0, &after));
     }
-    assert!(
-        refused > 5000 && accepted > 5000 && later > 1000 && multiplies > 500,
-        "{refused} {accepted} {later} {multiplies}"
-    );
+    println!("{refused} {accepted} {later} {multiplies} {refills} {passed_midway} {passed}");
+    assert!(refused > 5000 && accepted > 5000 && later > 1000 && multiplies > 500);
+    assert!(refills > 500 && passed_midway > 50 && passed > 50);
 }

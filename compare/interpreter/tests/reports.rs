@@ -1,6 +1,11 @@
 //! The report program's cases keep to their format and are what their topics say.
 
+mod common;
+
+use common::table::{added, plus, START};
+use interpreter::memory;
 use interpreter::pipeline::Phase;
+use interpreter::plain::Plain;
 use interpreter::reports::{cases, expected, input, Case, BUDGET};
 
 fn topic(name: &str) -> Case {
@@ -30,7 +35,7 @@ fn the_format() {
 #[test]
 fn the_papers_sample() {
     let zeros: String = (0..15).map(|name| format!("r{name}=00000000\n")).collect();
-    let lines = "answer=22\npc=00000014\ncycles=21\nretired=11\nflags=6\n";
+    let lines = "answer=22\npc=00000014\ncycles=21\nticks=26\nretired=11\nflags=6\n";
     assert_eq!(
         topic("22 the paper's sample").report(),
         format!("{lines}{zeros}")
@@ -116,6 +121,83 @@ fn budgets_within_multiplies() {
         assert_eq!(last.phase, Phase::Step(1));
         assert_ne!(last.r, first.r);
     }
+}
+
+/// A start, three words of one cycle, and the N, S and I of the row.
+#[test]
+fn ticks_of_each_row() {
+    let rows = [
+        ("MOV", [0, 1, 0]),
+        ("TEQ, Rd 15", [0, 1, 0]),
+        ("MOV by register", [0, 1, 1]),
+        ("CMP by register", [0, 1, 1]),
+        ("MOV to R15", [1, 2, 0]),
+        ("MOVS to R15 by register", [1, 2, 1]),
+        ("load", [1, 1, 1]),
+        ("load of a byte", [1, 1, 1]),
+        ("load of R15", [2, 2, 1]),
+        ("store", [2, 0, 0]),
+        ("store of R15", [2, 0, 0]),
+        ("block load of 1", [1, 1, 1]),
+        ("block load of 15", [1, 15, 1]),
+        ("block load of R15", [2, 2, 1]),
+        ("block load of 16", [2, 17, 1]),
+        ("block store of 1", [2, 0, 0]),
+        ("block store of 16", [2, 15, 0]),
+        ("branch", [1, 2, 0]),
+        ("branch with link", [1, 2, 0]),
+        ("MUL", [0, 1, 3]),
+        ("MLAS", [0, 1, 4]),
+        ("MUL to its Rs", [0, 1, 4]),
+        ("MLA to its Rs", [0, 1, 4]),
+    ];
+    let failed =
+        |case: &Case| case.topic.starts_with("22 ticks, ") && case.topic.ends_with(" failed");
+    let failed: Vec<Case> = cases().into_iter().filter(failed).collect();
+    assert_eq!(failed.len(), 7);
+    let rows = rows.map(|(name, row)| (topic(&format!("22 ticks, {name}")), row));
+    let failed = failed.into_iter().map(|case| (case, [0, 1, 0]));
+    for (case, [n, s, i]) in rows.into_iter().chain(failed) {
+        let cycles = 5 + n + s + i;
+        let ticks = 6 + 2 * n + s + i;
+        let lines = format!("\ncycles={cycles}\nticks={ticks}\nretired=4\n");
+        assert!(case.report().contains(&lines), "{}", case.report());
+    }
+}
+
+/// What the instruction under way comes to isn't in the ticks, nor is one that stops.
+#[test]
+fn ticks_by_the_plain_machine() {
+    let (mut midway, mut boundaries, mut stopped) = (0, 0, 0);
+    for case in cases() {
+        let (answer, Some(core)) = case.outcome() else {
+            continue;
+        };
+        let mut image = case.image();
+        let (_, mut plain) = Plain::start([0; 15], 0, 0, &image);
+        let mut sums = START;
+        for _ in 0..core.retired {
+            let word = memory::word(&image, plain.a);
+            sums = plus(sums, added(word, plain.flags, &plain.r));
+            assert_eq!(plain.step(&mut image), 0, "{}", case.topic);
+        }
+        assert_eq!(core.sums, sums, "{}", case.topic);
+        let line = format!("\nticks={}\n", 2 * sums.n + sums.s + sums.i);
+        assert!(case.report().contains(&line), "{}", case.topic);
+        let together = sums.n + sums.s + sums.i;
+        if core.phase != Phase::Step(1) {
+            midway += 1;
+            assert!(together < BUDGET, "{}", case.topic);
+        } else {
+            assert_eq!(together, core.cycles, "{}", case.topic);
+            boundaries += 1;
+            stopped += u64::from(answer != 0);
+        }
+    }
+    assert!(
+        midway > 20 && boundaries > 20 && stopped > 20,
+        "{midway} {boundaries} {stopped}"
+    );
 }
 
 /// A cycle on, the stop that was not yet found is.

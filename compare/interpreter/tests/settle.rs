@@ -3,7 +3,8 @@
 
 mod common;
 
-use common::records::{any_core, bad_cores, good};
+use common::records::{any_core, bad_cores, good, sums_are_good};
+use common::table::{added, added_by_class, plus, START};
 use common::{memory, registers, slow};
 use interpreter::arm::Shift;
 use interpreter::assembler::*;
@@ -42,7 +43,8 @@ fn after(word: u32, r: [u32; 15], flags: u32, cycles: u64) -> (Core, Vec<u8>) {
     (core, lent)
 }
 
-/// Settles a copy, holds it to the slow one and to a run of as many cycles, and settles it again.
+/// Settles a copy, holds it to the slow one and to a run of as many cycles, and settles it again, which
+/// is refused where the sums have passed the cycles.
 fn settled(core: &Core, lent: &[u8]) -> (u32, u64, Core, Vec<u8>) {
     let (mut memory, mut slowly) = (lent.to_vec(), lent.to_vec());
     let (answer, used, settled) = core.clone().settle(&mut memory);
@@ -60,8 +62,13 @@ fn settled(core: &Core, lent: &[u8]) -> (u32, u64, Core, Vec<u8>) {
     } else {
         assert_eq!((used, &settled, &memory[..]), (0, core, lent));
     }
+    let expected = if answer == 0 && !sums_are_good(&settled) {
+        11
+    } else {
+        answer
+    };
     let again = settled.clone().settle(&mut memory);
-    assert_eq!(again, (answer, 0, settled.clone()));
+    assert_eq!(again, (expected, 0, settled.clone()));
     assert_eq!(memory, slowly);
     (answer, used, settled, memory)
 }
@@ -91,6 +98,10 @@ fn in_each_step(word: u32, rs: u32, own: u32, refills: u32) {
         assert_eq!(settled.retired, u64::from(done > 0));
         assert_eq!(settled.cycles, core.cycles + used);
         assert_eq!(settled.stop, 0);
+        let whole = plus(START, added(word, 2, &with_rs(rs)));
+        assert_eq!(settled.sums, if done > 0 { whole } else { START });
+        let midway = done < total;
+        assert_eq!(core.sums, if midway { START } else { whole });
     }
 }
 
@@ -190,6 +201,7 @@ fn a_start() {
             let (answer, used, settled, _) = settled(&core, &lent);
             assert_eq!((answer, used), (0, 2 - done));
             assert_eq!((settled.cycles, settled.retired, settled.stop), (2, 0, 0));
+            assert_eq!(settled.sums, START);
             assert_eq!((settled.ix, settled.pc), (Some(word), ENTRY + 8));
         }
     }
@@ -463,25 +475,36 @@ fn another_word_or_phase() {
     assert_eq!(settled(&core, &lent).0, 11);
 }
 
-/// What refills retires, whatever word it is, unless it is blank.
+/// A word that can store the counter retires, whether its condition passes now or not; no word is a
+/// start's, and other words aren't taken.
 #[test]
 fn refills_of_any_word() {
-    for ix in [
-        None,
-        Some(SWI),
-        Some(mov(5, number(1))),
-        Some(on(NEVER, branch(-2))),
-    ] {
+    let cases = [
+        (None, 0),
+        (Some(branch(-2)), 0),
+        (Some(on(0, block(LOAD | UP, 1, 0xFFFF))), 0),
+        (Some(mov(15, by_register(1, Shift::Lsl, 2))), 0),
+        (Some(SWI), 11),
+        (Some(mov(5, number(1))), 11),
+        (Some(on(NEVER, branch(-2))), 11),
+    ];
+    for (ix, wanted) in cases {
         for (phase, left) in [(Refill1, 2), (Refill2, 1)] {
             let core = Core {
                 phase,
                 ix,
+                cycles: 40,
                 ..good()
             };
             let lent = memory(64, &[]);
             let (answer, used, after, _) = settled(&core, &lent);
-            assert_eq!((answer, used), (0, left));
-            assert_eq!(after.retired, core.retired + u64::from(ix.is_some()));
+            assert_eq!(answer, wanted);
+            if answer == 0 {
+                assert_eq!(used, left);
+                assert_eq!(after.retired, core.retired + u64::from(ix.is_some()));
+                let more = ix.map_or(START, |word| added_by_class(word, &core.r));
+                assert_eq!(after.sums, plus(core.sums, more));
+            }
         }
     }
 }

@@ -3,6 +3,7 @@
 mod common;
 
 use common::memory;
+use common::table::{added, plus, START};
 use interpreter::arm::{cycles_by_rs, decode, forbidden, passes, Instruction, Shift};
 use interpreter::assembler::*;
 use interpreter::durations::{duration, ends};
@@ -11,11 +12,14 @@ use interpreter::pipeline::{Core, Phase};
 use interpreter::plain::Plain;
 use interpreter::programs::{lively, noise, program, Program};
 use interpreter::random::Random;
+use interpreter::sums::Sums;
 
 /// What the plain machine does, up to a stop or until the cycles pass a limit.
 struct History {
     /// 2 plus the durations of the first k instructions, for k from 0.
     sums: Vec<u64>,
+    /// The start's N, S and I with those that the first k instructions add, by the paper's table.
+    slot_sums: Vec<Sums>,
     /// The machine and its memory after k instructions.
     states: Vec<(Plain, Vec<u8>)>,
     /// The stop, if it came before the limit.
@@ -29,10 +33,11 @@ impl History {
         assert_eq!(answer, 0);
         let mut history = History {
             sums: vec![2],
+            slot_sums: vec![START],
             states: vec![(plain.clone(), memory.clone())],
             stop: None,
         };
-        let mut total = 2;
+        let (mut total, mut slot) = (2, START);
         while total <= limit {
             let word = words::fetch(&memory, plain.a);
             let (flags, r) = (plain.flags, plain.r);
@@ -41,8 +46,11 @@ impl History {
                 history.stop = Some(stop);
                 break;
             }
-            total += duration(word.expect("a word that ran"), flags, &r);
+            let word = word.expect("a word that ran");
+            total += duration(word, flags, &r);
+            slot = plus(slot, added(word, flags, &r));
             history.sums.push(total);
+            history.slot_sums.push(slot);
             history.states.push((plain.clone(), memory.clone()));
         }
         history
@@ -134,11 +142,28 @@ impl Follower<'_> {
         let distance = self.history.distance(self.total);
         assert!(distance <= 19);
         assert_eq!(core.phase == Phase::Step(1), distance == 0);
+        self.compare_slot_sums(k, distance);
         let (plain, memory) = &self.history.states[k as usize];
         if distance == 0 {
             self.compare_boundary(plain, memory);
         } else if self.total > 2 {
             self.compare_inside(plain, memory, distance);
+        }
+    }
+
+    /// In the middle of an instruction they are those of the boundary before it, of a start none.
+    fn compare_slot_sums(&self, k: u64, distance: u64) {
+        let sums = self.core.sums;
+        if self.total < 2 {
+            assert_eq!(sums, Sums::default());
+        } else {
+            assert_eq!(sums, self.history.slot_sums[k as usize]);
+        }
+        let together = sums.n + sums.s + sums.i;
+        if distance == 0 {
+            assert_eq!(together, self.total);
+        } else if self.total > 0 {
+            assert!(together < self.total);
         }
     }
 
@@ -479,6 +504,10 @@ fn a_million_cycles() {
     assert_eq!((answer, used, core.cycles), (0, 1_000_000, 1_000_000));
     // 999,998 cycles after the start's refill are 249,999 rounds of 4 and two cycles more.
     assert_eq!((core.r[0], core.retired), (250_000, 2 * 249_999 + 1));
+    // A round is 3S+N; the sum after the last one is in, the branch under way isn't.
+    let rounds = 249_999;
+    assert_eq!(core.sums.n, 1 + rounds);
+    assert_eq!((core.sums.s, core.sums.i), (1 + 3 * rounds + 1, 0));
 }
 
 #[test]

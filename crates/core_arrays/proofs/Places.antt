@@ -36,6 +36,12 @@ fields c places.core_retired = refl
 fields c places.core_retired_high = refl
 fields c places.core_stop = refl
 fields c places.core_length = refl
+fields c places.core_sum_n = refl
+fields c places.core_sum_n_high = refl
+fields c places.core_sum_s = refl
+fields c places.core_sum_s_high = refl
+fields c places.core_sum_i = refl
+fields c places.core_sum_i_high = refl
 
 core_memory_length : (words : List ℕ) → (unpacked words).control.board.size ≡ at words (core_place places.core_length)
 unfolding unpacked

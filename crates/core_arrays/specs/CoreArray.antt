@@ -1,5 +1,7 @@
 -- A core as an array of words, and back.
 use Rattle.std.specs.Prelude.{ℕ, Bool, ◌&&◌, List, [], ◌∷◌, ◌++◌}
+use Rattle.semantics.specs.declared.Sums.{Sums}
+use Rattle.semantics.specs.Sums.{nsi}
 use Rattle.steps.specs.declared.Latches.{Latches}
 use Rattle.steps.specs.Steps.{latches}
 use Rattle.cycle.specs.declared.Control.{Control}
@@ -25,12 +27,16 @@ abbrev pub counts_words : Counts → List ℕ
 counts_words n = count_words n.cycles ++ count_words n.retired
 
 -- words 31 and 32
-abbrev pub last_words : Control → List ℕ
-last_words c = c.stop ∷ c.board.size ∷ []
+abbrev pub stop_words : Control → List ℕ
+stop_words c = c.stop ∷ c.board.size ∷ []
 
--- words 15 to 32; the phase is word 23
+-- words 33 to 38
+abbrev pub sums_words : Sums → List ℕ
+sums_words q = count_words q.n ++ count_words q.s ++ count_words q.i
+
+-- words 15 to 38; the phase is word 23
 abbrev pub control_words : Control → List ℕ
-control_words c = pipe_words c.flags c.pipe ++ phase_number c.phase ∷ latch_words c.latches ++ counts_words c.counts ++ last_words c
+control_words c = pipe_words c.flags c.pipe ++ phase_number c.phase ∷ latch_words c.latches ++ counts_words c.counts ++ stop_words c ++ sums_words c.counts.sums
 
 unfoldable pub packed : Core → List ℕ
 packed c = registers_of c.registers ++ control_words c.control
@@ -46,7 +52,7 @@ abbrev pub length_in : List ℕ → ℕ
 length_in words = at words 32
 
 abbrev pub counts_at : List ℕ → Counts
-counts_at words = counts (count_at words 27) (count_at words 29)
+counts_at words = counts (count_at words 27) (count_at words 29) (nsi (count_at words 33) (count_at words 35) (count_at words 37))
 
 abbrev pub control_of : List ℕ → Control
 control_of words = record {

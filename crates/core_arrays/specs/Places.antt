@@ -10,7 +10,7 @@ use Rattle.core_arrays.specs.CoreArray.{packed, unpacked, length_in}
 
 -- how many words the array has
 abbrev pub core_word_count : ℕ
-core_word_count = 33
+core_word_count = 39
 
 -- the place of each named word, and what stands there
 pub data CoreName : Type 0 where
@@ -33,6 +33,12 @@ pub data CoreName : Type 0 where
   core_retired_high : CoreName
   core_stop : CoreName
   core_length : CoreName
+  core_sum_n : CoreName
+  core_sum_n_high : CoreName
+  core_sum_s : CoreName
+  core_sum_s_high : CoreName
+  core_sum_i : CoreName
+  core_sum_i_high : CoreName
 
 abbrev pub core_place : CoreName → ℕ
 core_place core_r0 = 0
@@ -54,6 +60,12 @@ core_place core_retired = 29
 core_place core_retired_high = 30
 core_place core_stop = 31
 core_place core_length = 32
+core_place core_sum_n = 33
+core_place core_sum_n_high = 34
+core_place core_sum_s = 35
+core_place core_sum_s_high = 36
+core_place core_sum_i = 37
+core_place core_sum_i_high = 38
 
 abbrev pub core_field : CoreName → Core → ℕ
 core_field core_r0 c = at c.registers 0
@@ -75,6 +87,12 @@ core_field core_retired c = c.control.counts.retired % 2 ^ 32
 core_field core_retired_high c = c.control.counts.retired / 2 ^ 32
 core_field core_stop c = c.control.stop
 core_field core_length c = c.control.board.size
+core_field core_sum_n c = c.control.counts.sums.n % 2 ^ 32
+core_field core_sum_n_high c = c.control.counts.sums.n / 2 ^ 32
+core_field core_sum_s c = c.control.counts.sums.s % 2 ^ 32
+core_field core_sum_s_high c = c.control.counts.sums.s / 2 ^ 32
+core_field core_sum_i c = c.control.counts.sums.i % 2 ^ 32
+core_field core_sum_i_high c = c.control.counts.sums.i / 2 ^ 32
 
 pub record Layout : Type 0 where
   pub all : (c : Core) → length (packed c) ≡ core_word_count

@@ -7,4 +7,4 @@ pub mod packing;
 mod phases;
 pub mod unpacking;
 
-pub type CoreArray = [u32; 33];
+pub type CoreArray = [u32; 39];

@@ -1,6 +1,6 @@
 // From a core to its array, group by group.
 ghost use Rattle.std.specs.Prelude.{◌≡◌};
-ghost use Rattle.core_arrays.specs.CoreArray.{pipe_words, latch_words, counts_words, packed};
+ghost use Rattle.core_arrays.specs.CoreArray.{pipe_words, latch_words, counts_words, sums_words, packed};
 
 use crate::CoreArray;
 use crate::counts::count_words;
@@ -9,6 +9,7 @@ use crate::phases::phase_number;
 use arrays::put_registers;
 use cycle::{Counts, Pipe};
 use pipeline::Core;
+use semantics::Sums;
 use steps::Latches;
 
 fn pipe_words(flags: u32, p: Pipe) -> [u32; 8]
@@ -34,6 +35,15 @@ fn counts_words(n: Counts) -> [u32; 4]
     [cycles, cycles_high, retired, retired_high]
 }
 
+fn sums_words(q: Sums) -> [u32; 6]
+    ensures { result ≡ sums_words q }
+{
+    let [n, n_high] = count_words(q.n);
+    let [s, s_high] = count_words(q.s);
+    let [i, i_high] = count_words(q.i);
+    [n, n_high, s, s_high, i, i_high]
+}
+
 pub fn pack(words: &mut CoreArray, core: Core)
     ensures { words.new ≡ packed core }
 {
@@ -45,4 +55,5 @@ pub fn pack(words: &mut CoreArray, core: Core)
     words[27..31].copy_from_slice(&counts_words(c.counts));
     words[31] = c.stop;
     words[32] = c.board.size;
+    words[33..39].copy_from_slice(&sums_words(c.counts.sums));
 }

@@ -10,6 +10,7 @@ use arrays::registers_of;
 use cycle::{Control, Counts, Pipe};
 use memory::Board;
 use pipeline::Core;
+use semantics::Sums;
 use steps::Latches;
 
 fn control_of(words: &CoreArray) -> Control
@@ -32,6 +33,11 @@ fn control_of(words: &CoreArray) -> Control
         counts: Counts {
             cycles: joined(words[27], words[28]),
             retired: joined(words[29], words[30]),
+            sums: Sums {
+                n: joined(words[33], words[34]),
+                s: joined(words[35], words[36]),
+                i: joined(words[37], words[38]),
+            },
         },
         stop: words[31],
         board: Board {

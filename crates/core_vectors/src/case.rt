@@ -18,7 +18,7 @@ fn begin(mode: Mode, array: &CoreArray, memory: &[u8]) -> Result<Core, Refusal> 
 }
 
 fn print_core(core: Core) {
-    let mut array = [0; 33];
+    let mut array = [0; 39];
     pack(&mut array, core);
     print::words(&array);
 }

@@ -1,3 +1,4 @@
 pub mod Closing
 pub mod StopFound
 pub mod CycleTable
+pub mod SumsRise

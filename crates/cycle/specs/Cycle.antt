@@ -3,6 +3,8 @@ use Rattle.std.specs.Prelude.{ℕ, suc, Option, Some, None}
 use Rattle.word.specs.Reader.{read_of}
 use Rattle.datapath.specs.Counter.{ahead, counter}
 use Rattle.memory.specs.Memory.{Memory, word_at}
+use Rattle.semantics.specs.declared.Sums.{Sums}
+use Rattle.semantics.specs.Sums.{no_sums, plus, start_sums, skipped_sums, sums_of}
 use Rattle.stops.specs.Stops.{Due, no_word_there, skipped, executes, due}
 use Rattle.steps.specs.declared.Phase.{Phase}
 use Rattle.steps.specs.declared.Phase.TheVariants.{Step1, Refill1, Refill2, Later}
@@ -16,10 +18,10 @@ use Rattle.cycle.specs.declared.Counts.{Counts}
 use Rattle.cycle.specs.declared.Control.{Control}
 use Rattle.cycle.specs.Machine.{Machine, machine, lent, pipe, counts}
 
--- a refill with IX blank is the start's
+-- a refill with IX blank is the start's; a multiply has none
 abbrev pub refilled : Option ℕ → Ended
 refilled None = Start
-refilled (Some w) = Executed
+refilled (Some w) = Executed 0
 
 -- how a failed condition ends, at A+8 in PC: its one step is done, and the counter goes on
 abbrev pub skips : ℕ → After
@@ -74,11 +76,24 @@ abbrev pub retired_by : After → ℕ → ℕ
 retired_by (More ph) k = k
 retired_by (Done Start) k = k
 retired_by (Done Skipped) k = suc k
-retired_by (Done Executed) k = suc k
+retired_by (Done (Executed m)) k = suc k
 retired_by (Jump word) k = k
 
-abbrev pub counts_after : After → Counts → Counts
-counts_after e n = counts (suc n.cycles) (retired_by e n.retired)
+-- the sums of what ended, with the word of an instruction that was executed in IX
+abbrev pub ended_sums : Ended → Option ℕ → Sums
+ended_sums Start x = start_sums
+ended_sums Skipped x = skipped_sums
+ended_sums (Executed m) (Some w) = sums_of (read_of w) m
+ended_sums (Executed m) None = no_sums
+
+-- they are added there and nowhere else (paper 02, §3)
+abbrev pub sums_after : After → Option ℕ → Sums → Sums
+sums_after (More ph) x q = q
+sums_after (Done e) x q = plus q (ended_sums e x)
+sums_after (Jump word) x q = q
+
+abbrev pub counts_after : After → Option ℕ → Counts → Counts
+counts_after e x n = counts (suc n.cycles) (retired_by e n.retired) (sums_after e x n.sums)
 
 -- the next core: what the cycle did, the pipe after its fetch, and the counts
 abbrev pub close : Own → Pipe → Control → Machine
@@ -89,7 +104,7 @@ close o p c =
       pipe = pipe_after e p;
       phase = phase_after e;
       latches = o.step.latches;
-      counts = counts_after e c.counts;
+      counts = counts_after e c.pipe.ix c.counts;
       stop = c.stop;
       board = c.board;
     }) o.memory.bytes

@@ -2,6 +2,7 @@
 use Rattle.std.specs.Prelude.{ℕ, None}
 use Rattle.memory.specs.declared.Board.{Board}
 use Rattle.steps.specs.declared.Phase.TheVariants.{Refill1}
+use Rattle.semantics.specs.Sums.{no_sums}
 use Rattle.steps.specs.Steps.{idle}
 use Rattle.cycle.specs.declared.Control.{Control}
 use Rattle.cycle.specs.Machine.{pipe, counts}
@@ -13,7 +14,7 @@ fresh_control flags entry board = record {
   pipe = pipe entry None None None;
   phase = Refill1;
   latches = idle;
-  counts = counts 0 0;
+  counts = counts 0 0 no_sums;
   stop = 0;
   board = board;
 }

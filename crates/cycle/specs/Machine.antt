@@ -3,6 +3,7 @@ use Rattle.std.specs.Prelude.{ℕ, ◌^◌, List, Option}
 use Rattle.datapath.specs.Counter.{behind}
 use Rattle.memory.specs.Memory.{Memory, memory_of}
 use Rattle.registers.specs.State.{State, state}
+use Rattle.semantics.specs.declared.Sums.{Sums}
 use Rattle.cycle.specs.declared.Pipe.{Pipe}
 use Rattle.cycle.specs.declared.Counts.{Counts}
 use Rattle.cycle.specs.declared.Control.{Control}
@@ -26,8 +27,8 @@ state_of m = state m.registers m.control.flags (behind m.control.pipe.pc 8) (len
 abbrev pub pipe : ℕ → Option ℕ → Option ℕ → Option ℕ → Pipe
 pipe pc ir1 ir2 ix = record { pc = pc; ir1 = ir1; ir2 = ir2; ix = ix }
 
-abbrev pub counts : ℕ → ℕ → Counts
-counts cycles retired = record { cycles = cycles; retired = retired }
+abbrev pub counts : ℕ → ℕ → Sums → Counts
+counts cycles retired sums = record { cycles = cycles; retired = retired; sums = sums }
 
 -- the largest count of cycles
 abbrev pub most_cycles : ℕ

@@ -7,6 +7,7 @@ mod own;
 pub mod stop;
 
 use memory::Board;
+use semantics::Sums;
 use steps::{Latches, Phase};
 
 // The counter and the words fetched. IX holds the word of the instruction under way.
@@ -18,10 +19,12 @@ pub struct Pipe {
     pub ix: Option<u32>,
 }
 
+// What is counted: cycles, instructions retired, and the cycles of those by kind.
 #[derive(Clone, Copy, Default)]
 pub struct Counts {
     pub cycles: u64,
     pub retired: u64,
+    pub sums: Sums,
 }
 
 // All of the core but its registers.

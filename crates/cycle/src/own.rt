@@ -65,7 +65,7 @@ fn refilled(ix: Option<u32>) -> Ended
     ensures { result ≡ refilled ix }
 {
     match ix {
-        Some(_) => Ended::Executed,
+        Some(_) => Ended::Executed(0),
         None => Ended::Start,
     }
 }

@@ -36,7 +36,7 @@ use Rattle.steps.specs.declared.Phase.{Phase}
 use Rattle.steps.specs.declared.Phase.TheVariants.{Step1, Refill1, Refill2, Later}
 use Rattle.steps.specs.declared.After.TheVariants.{More}
 use Rattle.steps.specs.declared.Latches.{Latches}
-use Rattle.steps.specs.Steps.{Own, own, last, still, first_step, later_step, load_later, store_later, load_step, block_load_later, store_step, block_store_later, multiply_later}
+use Rattle.steps.specs.Steps.{Own, own, last, multiply_last, still, first_step, later_step, load_later, store_later, load_step, block_load_later, store_step, block_store_later, multiply_later}
 use Rattle.cycle.specs.Machine.{Machine, lent}
 use Rattle.cycle.specs.Cycle.{first_due, later_of, own_of, cycle}
 use Rattle.runs.specs.Run.{reach}
@@ -136,7 +136,7 @@ multiply-keeps : (i : Multiply) (k : ℕ) (g : List ℕ) (f : ℕ) (mem : Memory
 unfolding multiply_later
 multiply-keeps i k g f mem = go (ltb (suc k) (m_of (rs_of i g))) (multiplied-keeps i g f)
   where
-    go : (b : Bool) → KeepsOut g f (multiplied i g f) → Keeps g f mem (pick b (own g (still f (More (Later (suc k)))) mem) (last (multiplied i g f) mem))
+    go : (b : Bool) → KeepsOut g f (multiplied i g f) → Keeps g f mem (pick b (own g (still f (More (Later (suc k)))) mem) (multiply_last (m_of (rs_of i g)) (multiplied i g f) mem))
     go true o = (refl, refl, λ h. h)
     go false o = (o.0, refl, o.1)
 

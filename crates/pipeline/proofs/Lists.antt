@@ -20,7 +20,9 @@ use Rattle.plain.proofs.Accepted as plain-start
 use Rattle.steps.specs.declared.Phase.{Phase}
 use Rattle.steps.specs.declared.Phase.TheVariants.{Step1, Refill1, Refill2, Later}
 use Rattle.datapath.specs.Counter.{counters}
-use Rattle.cycle.specs.Machine.{Machine, most_cycles}
+use Rattle.semantics.specs.Sums.{no_sums, total}
+use Rattle.cycle.specs.declared.Counts.{Counts}
+use Rattle.cycle.specs.Machine.{Machine, counts, most_cycles}
 use Rattle.cycle.specs.Cycle.{cycle}
 use Rattle.cycle.specs.StopFound.{is_step1, stop_found}
 use Rattle.cycle.proofs.StopFound.{no_stop}
@@ -33,14 +35,15 @@ use Rattle.plain.specs.Running.{Ran, ran, one_more, unless}
 use Rattle.plain.proofs.Running as loops
 use Rattle.runs.specs.Run.{holding, reach, engine, run_from}
 use Rattle.runs.specs.CyclesLeft.{cycles_left}
-use Rattle.pipeline.specs.Term3.{fresh, plain_fresh, Begins, sums, Stops, Distance, Call, running, settling, lent_to, lend, call, Reply, reply, reply_of, RunAccepted, Accepted, Refused, Calls, no_calls, accepted, refused}
+use Rattle.pipeline.specs.Term3.{fresh, plain_fresh, Begins, sums, sums_after, sums_at, Stops, Distance, Call, running, settling, lent_to, lend, call, Reply, reply, reply_of, RunAccepted, Accepted, Refused, Calls, no_calls, accepted, refused}
 use Rattle.pipeline.specs.Term3.{Answers, other_length, too_many, too_far, repeats, stops, spends, boundary_too_far, settles, AllAnswer, none, more, Never, never_none, never_more}
 use Rattle.pipeline.specs.Term3.{Greatest, Leaves, Further, EndsSettled, at_last, later_on, Follows, Term3}
 use Rattle.runs.specs.Boundary.{boundary, lead}
 use Rattle.pipeline.proofs.Keeps.{reach-alike}
+use Rattle.pipeline.proofs.Sound.{refill-alike}
 use Rattle.runs.proofs.Flight.{Aloft, Flight}
 use Rattle.runs.proofs.PlainSteps.{duration-flight, Stop, stop-met}
-use Rattle.pipeline.proofs.Position.{Pos, advance, beginning, plain_beginning, started, sums-step, ranged}
+use Rattle.pipeline.proofs.Position.{Pos, advance, beginning, plain_beginning, counts_there, counts_last, last-retired, started, sums-step, sums-timed, ranged}
 use Rattle.runs.proofs.PlainSteps.{boundary-stop}
 use Rattle.pipeline.proofs.Settled.{flight-left, settle-laws}
 
@@ -130,9 +133,9 @@ module _ (p : plain.Machine) (m₀ : Machine) (r₀ : p.plain.a < counters) (s�
   found : {t : ℕ} (c : Pos p m₀ r₀ s₀ t) (q : ℕ) → stop_found (reach m₀ t) ≡ suc q → (c.n ≡ 0) × (stop_met (trace p c.k) ≡ suc q)
   found {t} c q e = go c.n c.u c.flying
     where
-      go : (n u : ℕ) → Flight (pred c.k) u n (reach m₀ t) (boundary (trace p c.k) c.k (sums p c.k))
+      go : (n u : ℕ) → Flight (counts_last p c.k) u n (reach m₀ t) (boundary (trace p c.k) (counts_there p c.k))
           → (n ≡ 0) × (stop_met (trace p c.k) ≡ suc q)
-      go zero u f = (refl, sym (boundary-stop (trace p c.k) c.k (sums p c.k) (ranged p m₀ r₀ s₀ c.k)) ∙ rw f at e)
+      go zero u f = (refl, sym (boundary-stop (trace p c.k) (counts_there p c.k) (ranged p m₀ r₀ s₀ c.k)) ∙ rw f at e)
       go (suc n) u f =
           absurd (let z : stop_found (reach m₀ t) ≡ 0 = no_stop (reach m₀ t) f.0.off in omega arith)
 
@@ -155,6 +158,10 @@ module _ (p : plain.Machine) (m₀ : Machine) (r₀ : p.plain.a < counters) (s�
           rw (e, engines.runs) (inr (record { to = t; u = 0; q = q; sum = omega arith; less = omega arith; pos = c; at = f.0; stop = f.1; is = refl }))
 
   -- ---- sums
+
+  start-sum : sums p 0 ≡ 2
+  unfolding sums durations
+  start-sum = refl
 
   sums-le : (k : ℕ) {j : ℕ} → j ≤ k → sums p j ≤ sums p k
   sums-le zero {j} h = let e : j ≡ 0 = omega arith in rw e (omega arith)
@@ -195,12 +202,12 @@ module _ (p : plain.Machine) (m₀ : Machine) (r₀ : p.plain.a < counters) (s�
 
   -- on a boundary, or off it
   view : {t : ℕ} (c : Pos p m₀ r₀ s₀ t)
-      → ((c.n ≡ 0) × (t ≡ sums p c.k) × (reach m₀ t ≡ boundary (trace p c.k) c.k t)) ⊎ ((0 < c.n) × Aloft (pred c.k) c.u (reach m₀ t))
+      → ((c.n ≡ 0) × (t ≡ sums p c.k) × (reach m₀ t ≡ boundary (trace p c.k) (counts t c.k (sums_after p c.k)))) ⊎ ((0 < c.n) × Aloft (counts_last p c.k) c.u (reach m₀ t))
   view {t} c = go c.n c.total c.flying
     where
-      go : (n : ℕ) → t + n ≡ sums p c.k → Flight (pred c.k) c.u n (reach m₀ t) (boundary (trace p c.k) c.k (sums p c.k))
-          → ((n ≡ 0) × (t ≡ sums p c.k) × (reach m₀ t ≡ boundary (trace p c.k) c.k t)) ⊎ ((0 < n) × Aloft (pred c.k) c.u (reach m₀ t))
-      go zero e f = let i : t ≡ sums p c.k = omega arith in inl (refl, i, f ∙ ap (boundary (trace p c.k) c.k) (sym i))
+      go : (n : ℕ) → t + n ≡ sums p c.k → Flight (counts_last p c.k) c.u n (reach m₀ t) (boundary (trace p c.k) (counts_there p c.k))
+          → ((n ≡ 0) × (t ≡ sums p c.k) × (reach m₀ t ≡ boundary (trace p c.k) (counts t c.k (sums_after p c.k)))) ⊎ ((0 < n) × Aloft (counts_last p c.k) c.u (reach m₀ t))
+      go zero e f = let i : t ≡ sums p c.k = omega arith in inl (refl, i, f ∙ ap (λ u. boundary (trace p c.k) (counts u c.k (sums_after p c.k))) (sym i))
       go (suc n) e f = inr (omega arith, f.0)
 
   held-here : {t q : ℕ} → Here t q → held_away (reach m₀ t).control.phase q ≡ false
@@ -221,6 +228,19 @@ module _ (p : plain.Machine) (m₀ : Machine) (r₀ : p.plain.a < counters) (s�
     abbrev Result : Call → ℕ → ℕ → Ran Machine → Type 0
     Result c t q r = (t' : ℕ) × (t' ≡ t + r.used) × Reaches c t q r t'
 
+    -- the three sums do not pass the cycles
+    within : {t : ℕ} (c : Pos p m₀ r₀ s₀ t) → total (reach m₀ t).control.counts.sums ≤ t
+    unfolding boundary
+    within {t} c =
+        ⊎_elim
+        (λ v. rw v.2 (omega (arith, v.1, sums-timed p c.k)))
+        (λ v. rw v.1.sums (go c.k refl))
+        (view c)
+      where
+        go : (k : ℕ) → c.k ≡ k → total (counts_last p k).sums ≤ t
+        go zero e = omega arith
+        go (suc k) e = omega (arith, c.past k e, sums-timed p k)
+
     -- 11 doesn't come up, whatever is lent
     sound : {t q : ℕ} → Here t q → (mem : List ℕ) → bad (lend (holding (reach m₀ t) q) mem) ≡ false
     unfolding bad
@@ -238,6 +258,7 @@ module _ (p : plain.Machine) (m₀ : Machine) (r₀ : p.plain.a < counters) (s�
           reach-cycles m₀ t no-cycles,
           le-ltb most_cycles t h.small,
           le-ltb t m.control.counts.retired (rw (reach-cycles m₀ t no-cycles) at s.counts),
+          le-ltb t (total m.control.counts.sums) (within h.pos),
           stop-here h,
           held-here h,
         )
@@ -249,8 +270,8 @@ module _ (p : plain.Machine) (m₀ : Machine) (r₀ : p.plain.a < counters) (s�
 
         phase-fine : (ph : Phase) → bad_phase ph (reach m₀ t) ≡ false → bad_phase ph (lend (holding (reach m₀ t) q) mem) ≡ false
         phase-fine Step1 e = refl
-        phase-fine Refill1 e = refl
-        phase-fine Refill2 e = refl
+        phase-fine Refill1 e = refill-alike (reach m₀ t).control.pipe.ix (lend (holding (reach m₀ t) q) mem) (reach m₀ t) ∙ e
+        phase-fine Refill2 e = refill-alike (reach m₀ t).control.pipe.ix (lend (holding (reach m₀ t) q) mem) (reach m₀ t) ∙ e
         phase-fine (Later k) e = step-fine k (due (reach m₀ t).control.pipe.ix (reach m₀ t).control.flags) e
 
     ran_on : (mem : List ℕ) (b t : ℕ) {r : Ran Machine} → RunAccepted n t mem b → Spent t b r ⊎ Halted t b r → Result (running mem b) t 0 r
@@ -371,7 +392,7 @@ module _ (p : plain.Machine) (m₀ : Machine) (r₀ : p.plain.a < counters) (s�
 
     left_here : {t q : ℕ} (h : Here t q) (mem : List ℕ) → cycles_left (lend (holding (reach m₀ t) q) mem) ≡ h.pos.n
     unfolding cycles_left boundary
-    left_here {t} h mem = let c = h.pos in flight-left c.n (pred c.k) c.u (reach m₀ t) (boundary (trace p c.k) c.k (sums p c.k)) c.sound refl c.flying
+    left_here {t} h mem = let c = h.pos in flight-left c.n (counts_last p c.k) c.u (reach m₀ t) (boundary (trace p c.k) (counts_there p c.k)) c.sound refl c.flying
 
     settle-runs : (mem : List ℕ) (t q : ℕ) {m : Machine} (a : At m t q) → call (settling mem) m ≡ call (running mem a.1.pos.n) m
     settle-runs mem t q {m} (i, h) =
@@ -448,13 +469,13 @@ module _ (p : plain.Machine) (m₀ : Machine) (r₀ : p.plain.a < counters) (s�
 
     -- ---- what is left
 
-    boundary-retired : (m : plain.Machine) (k t : ℕ) → (boundary m k t).control.counts.retired ≡ k
+    boundary-counts : (m : plain.Machine) (c : Counts) → (boundary m c).control.counts ≡ c
     unfolding boundary
-    boundary-retired m k t = refl
+    boundary-counts m c = refl
 
-    boundary-lead : (m : plain.Machine) (k t : ℕ) → lead (boundary m k t) ≡ 2
+    boundary-lead : (m : plain.Machine) (c : Counts) → lead (boundary m c) ≡ 2
     unfolding boundary lead
-    boundary-lead m k t = refl
+    boundary-lead m c = refl
 
     greatest-off : {t : ℕ} (c : Pos p m₀ r₀ s₀ t) → 0 < c.n → Greatest p t (pred c.k)
     greatest-off {t} c h = go c.k refl
@@ -478,14 +499,26 @@ module _ (p : plain.Machine) (m₀ : Machine) (r₀ : p.plain.a < counters) (s�
 
     greatest : {t : ℕ} (c : Pos p m₀ r₀ s₀ t) → Greatest p t (reach m₀ t).control.counts.retired
     greatest {t} c =
-        ⊎_elim (λ v. rw (v.2, boundary-retired) (greatest-at c v.1)) (λ v. rw v.1.retired (greatest-off c v.0)) (view c)
+        ⊎_elim (λ v. rw (v.2, boundary-counts) (greatest-at c v.1)) (λ v. rw (v.1.retired, last-retired p c.k) (greatest-off c v.0)) (view c)
 
     counted : {t : ℕ} (c : Pos p m₀ r₀ s₀ t) → t ≡ durations p (reach m₀ t).control.counts.retired + lead (reach m₀ t)
     counted {t} c =
         ⊎_elim
-        (λ v. v.1 ∙ rw (v.2, boundary-lead, boundary-retired) (unfold sums in omega arith))
-        (λ v. c.counted ∙ rw (v.1.beyond, v.1.retired))
+        (λ v. v.1 ∙ rw (v.2, boundary-lead, boundary-counts) (unfold sums in omega arith))
+        (λ v. c.counted ∙ rw (v.1.beyond, v.1.retired, last-retired p c.k))
         (view c)
+
+    three-sums : {t : ℕ} (c : Pos p m₀ r₀ s₀ t) → (reach m₀ t).control.counts.sums ≡ sums_at p t (reach m₀ t).control.counts.retired
+    unfolding sums_at
+    three-sums {t} c =
+        ⊎_elim
+        (λ v. rw (v.2, boundary-counts, le-ltb t 2 (omega (arith, v.1, sums-le c.k {j = 0} (omega arith), start-sum))))
+        (λ v. rw (v.1.sums, v.1.retired) (go c.k refl v.0))
+        (view c)
+      where
+        go : (k : ℕ) → c.k ≡ k → 0 < c.n → (counts_last p k).sums ≡ pick (ltb t 2) no_sums (sums_after p (counts_last p k).retired)
+        go zero e h = rw (lt-ltb t 2 (omega (arith, rw e at c.total, start-sum)))
+        go (suc k) e h = rw (le-ltb t 2 (omega (arith, c.past k e, sums-le k {j = 0} (omega arith), start-sum)))
 
     lead-held : (m : Machine) (q : ℕ) → lead (holding m q) ≡ lead m
     unfolding lead
@@ -500,12 +533,14 @@ module _ (p : plain.Machine) (m₀ : Machine) (r₀ : p.plain.a < counters) (s�
       stop = refl;
       retired = greatest h.pos;
       counted = counted h.pos ∙ ap (λ x. durations p (reach m₀ t).control.counts.retired + x) (sym (lead-held (reach m₀ t) q));
+      three_sums = three-sums h.pos;
       distance = (h.pos.n, distance-here h, h.pos.bound);
       there = λ k d e. ⊎_elim
-          (λ v. let i : h.pos.k ≡ k = sums-inj h.pos.does d (omega (arith, v.1)) in ap (λ s. holding s q) (v.2 ∙ ap (λ j. boundary (trace p j) j t) i))
+          (λ v. let i : h.pos.k ≡ k = sums-inj h.pos.does d (omega (arith, v.1)) in ap (λ s. holding s q) (v.2 ∙ ap (λ j. boundary (trace p j) (counts t j (sums_after p j))) i))
           (λ v. absurd (omega (arith, v.0, h.pos.total, least h.pos k (omega arith))))
           (view h.pos);
       only = λ e. ⊎_elim (λ v. (h.pos.k, h.pos.does, sym v.1)) (λ v. absurd (off-step1 (reach m₀ t).control.phase v.1.off e)) (view h.pos);
+      timed = λ e. ⊎_elim (λ v. rw (v.2, boundary-counts) (sums-timed p h.pos.k ∙ sym v.1)) (λ v. absurd (off-step1 (reach m₀ t).control.phase v.1.off e)) (view h.pos);
     }
 
     distance-left : {m : Machine} {t q : ℕ} → At m t q → Distance p t (cycles_left m)

@@ -20,7 +20,8 @@ use Rattle.plain.specs.Running.{Ran, ran, one_more, unless}
 use Rattle.plain.specs.Running as engines
 use Rattle.steps.specs.declared.Phase.{Phase}
 use Rattle.steps.specs.declared.Phase.TheVariants.{Step1, Refill1, Refill2, Later}
-use Rattle.steps.proofs.Both.{or-false}
+use Rattle.stops.proofs.Both.{or-false}
+use Rattle.cycle.specs.declared.Counts.{Counts}
 use Rattle.cycle.specs.Machine.{Machine}
 use Rattle.cycle.specs.Cycle.{cycle}
 use Rattle.cycle.specs.StopFound.{is_step1}
@@ -116,11 +117,11 @@ on-the-way (suc j) (suc n) m s e h p =
     on-the-way j n (cycle m) (next-sound m s (away m e)) (next-left m s e) (omega arith) (ap (λ (x : Machine). x.control.phase) (reach-first m j) ∙ p)
 
 -- a flight is as long as the cycles left
-pub flight-left : (n k u : ℕ) (m e : Machine) → Sound m → is_step1 e.control.phase ≡ true → Flight k u n m e → cycles_left m ≡ n
-flight-left zero k u m e s z f = none-there m (ap (λ (x : Machine). is_step1 x.control.phase) f ∙ z)
-flight-left (suc n) k u m e s z f =
+pub flight-left : (n : ℕ) (c : Counts) (u : ℕ) (m e : Machine) → Sound m → is_step1 e.control.phase ≡ true → Flight c u n m e → cycles_left m ≡ n
+flight-left zero c u m e s z f = none-there m (ap (λ (x : Machine). is_step1 x.control.phase) f ∙ z)
+flight-left (suc n) c u m e s z f =
     let o = f.0.off in
-    one_less m s o ∙ ap suc (flight-left n k (suc u) (cycle m) e (next-sound m s o) z f.1)
+    one_less m s o ∙ ap suc (flight-left n c (suc u) (cycle m) e (next-sound m s o) z f.1)
 
 -- ---- from a record that is not bad
 

@@ -4,14 +4,14 @@ use Rattle.std.specs.Prelude.{Option, ℕ, Some, None}
 use Prim.Native.Nat.{ℕ, zero, suc, ◌+◌, ◌-◌, ◌%◌, ◌≤◌, ◌<◌}
 use mathlib.Core.Path.{◌≡◌, refl, sym, ap, ◌∙◌}
 use mathlib.Core.List.{List, [], ◌∷◌}
-use mathlib.Core.Bool.{Bool, true, false, not, false≢true}
+use mathlib.Core.Bool.{Bool, true, false, not, ◌&&◌, false≢true}
 use native.Mathlib.Nat.{mod-eq_of_lt}
 use native.Mathlib.Omega.{arith}
 use lib.ListN.{length, drop}
 use lib.Dec.{ltb, eqb}
-use borrow.Author.Tests.{not-false, ltb-true, lt-ltb}
+use borrow.Author.Tests.{not-false, ltb-true, lt-ltb, eqb-true}
 use Rattle.bits.specs.Choice.{pick}
-use Rattle.bits.specs.Bits.{field}
+use Rattle.bits.specs.Bits.{field, bit}
 use Rattle.word.specs.declared.Single.{Single}
 use Rattle.word.specs.declared.Block.{Block}
 use Rattle.word.specs.declared.Multiply.{Multiply}
@@ -30,7 +30,10 @@ use Rattle.multiply.specs.InternalCycles.{m_of}
 use Rattle.multiply.proofs.InternalCycles.{m-bounds}
 use Rattle.transfer.specs.Block as block
 use Rattle.semantics.specs.Branch.{branched}
-use Rattle.semantics.specs.Duration.{own_steps}
+use Rattle.semantics.specs.Duration.{own_steps, refills, stores_counter}
+use Rattle.semantics.proofs.StoredCounters.{arriving, processed-refills}
+use Rattle.condition.proofs.Comparisons.{comparisons}
+use Rattle.runs.proofs.Countdown.{load-refills}
 use Rattle.stops.specs.Rules.{rule_broken}
 use Rattle.stops.specs.Moves.{moves_of, span}
 use Rattle.stops.specs.Stops.{Due, skipped, executes, due, outside, stop_due, stop_for}
@@ -47,13 +50,14 @@ use Rattle.cycle.specs.declared.Pipe.{Pipe}
 use Rattle.cycle.specs.declared.Counts.{Counts}
 use Rattle.plain.specs.Numbers.{most_bytes}
 use Rattle.cycle.specs.Machine.{Machine, machine, lent, state_of, pipe}
-use Rattle.steps.specs.Steps.{Own, own, ends, still, last, next_to_move, first_step, later_step, load_later, store_later, load_step, block_load_later, store_step, block_store_later, multiply_later}
+use Rattle.steps.specs.Steps.{Own, own, ends, still, last, multiply_last, next_to_move, first_step, later_step, load_later, store_later, load_step, block_load_later, store_step, block_store_later, multiply_later}
 use Rattle.cycle.specs.Cycle.{cycle, first_due, own_of, fetches, pipe_after, phase_after, retired_by}
 use Rattle.cycle.specs.StopFound.{is_step1, stop_found}
-use Rattle.refusals.specs.Numbers.{left_to_move, state_later, bad_within, bad_step, bad_phase}
-use Rattle.steps.proofs.Both.{or-false}
+use Rattle.refusals.specs.Numbers.{left_to_move, state_later, bad_within, bad_step, never, bad_refill, bad_phase}
+use Rattle.stops.proofs.Both.{or-false}
 use Rattle.pipeline.proofs.Keeps.{own-keeps}
-use Rattle.runs.proofs.Instruction.{extra, own-steps, Quiet, quietly, names-some, drop-count}
+use Rattle.stops.proofs.Quiet.{Quiet, quietly, names-some}
+use Rattle.runs.proofs.Instruction.{extra, own-steps, drop-count}
 
 -- what the test says of step j + 2 of an instruction, in the registers as they stand
 pub record Mid (i : Instruction) (j : ℕ) (g : List ℕ) (address : ℕ) (board : Board) : Type 0 where
@@ -61,6 +65,27 @@ pub record Mid (i : Instruction) (j : ℕ) (g : List ℕ) (address : ℕ) (board
   pub allowed : (s : State) → eqb (rule_broken i s) 0 ≡ true
   pub has : j < extra i g
   pub inside : outside (span (left_to_move i j) address) board ≡ false
+
+-- ---- refills
+
+-- a word that passes its condition at some flags has not the one that never does
+named : (w f : ℕ) → passes (field w 28 4) f ≡ true → eqb (field w 28 4) never ≡ false
+named w f h = go (eqb (field w 28 4) never) refl
+  where
+    go : (b : Bool) → eqb (field w 28 4) never ≡ b → b ≡ false
+    go true e = absurd (false≢true (sym (comparisons.never_passes f) ∙ ap (λ c. passes c f) (sym (eqb-true (field w 28 4) never e)) ∙ h))
+    go false e = refl
+
+stored-fine : (w : ℕ) (m : Machine) → eqb (field w 28 4) never ≡ false → stores_counter (read_of w) ≡ true → eqb (rule_broken (read_of w) (state_later m)) 0 ≡ true
+    → bad_refill (Some w) m ≡ false
+stored-fine w m c s r = rw (c, s, r)
+
+-- the words alone are tested
+pub refill-alike : (x : Option ℕ) (m k : Machine) → bad_refill x m ≡ bad_refill x k
+refill-alike None m k = refl
+refill-alike (Some w) m k = rw (rule-alike (read_of w) (state_later m) (state_later k))
+
+-- ---- steps
 
 -- a rule that is broken in no state
 in-every : (i : Instruction) (s : State) → eqb (rule_broken i s) 0 ≡ true → (t : State) → eqb (rule_broken i t) 0 ≡ true
@@ -90,21 +115,26 @@ module _ (i : Instruction) (j : ℕ) (m : Machine) where
       let h : suc j < own-count = omega (arith, own-steps i m.registers, k.has) in
       rw (k.known, k.allowed (state_later m), lt-ltb (suc j) own-count h, k.inside)
 
--- the same of what a cycle leaves: where the instruction goes on, the flags are as they were
+-- the same of what a cycle leaves: where the instruction goes on, the flags are as they were; where it stored the counter, it can
 abbrev Ok : Instruction → ℕ → Board → Own → After → Type 0
 Ok i f n o (More Step1) = Unit {0}
-Ok i f n o (More Refill1) = Unit {0}
-Ok i f n o (More Refill2) = Unit {0}
+Ok i f n o (More Refill1) = ⊥
+Ok i f n o (More Refill2) = ⊥
 Ok i f n o (More (Later j)) = Mid i j o.registers o.step.latches.address n × (o.step.flags ≡ f)
 Ok i f n o (Done k) = Unit {0}
-Ok i f n o (Jump w) = Unit {0}
+Ok i f n o (Jump w) = (stores_counter i ≡ true) × ((s : State) → eqb (rule_broken i s) 0 ≡ true)
 
 abbrev OkOwn : Instruction → ℕ → Board → Own → Type 0
 OkOwn i f n o = Ok i f n o o.step.after
 
-ends-ok : (i : Instruction) (f : ℕ) (n : Board) (o : Own) (e : Option ℕ) → Ok i f n o (ends e)
-ends-ok i f n o None = tt
-ends-ok i f n o (Some w) = tt
+ends-ok : (i : Instruction) (f : ℕ) (n : Board) (o : Own) (e : Option ℕ) → refills e ≡ pick (stores_counter i) 2 0 → ((s : State) → eqb (rule_broken i s) 0 ≡ true)
+    → Ok i f n o (ends e)
+ends-ok i f n o None h a = tt
+ends-ok i f n o (Some w) h a = (go (stores_counter i) h, a)
+  where
+    go : (b : Bool) → refills (Some w) ≡ pick b 2 0 → b ≡ true
+    go true e = refl
+    go false e = absurd (omega arith)
 
 -- one word moved, and the rest is inside; addresses inside do not wrap
 first-inside : (m a : ℕ) (n : Board) → outside (span (suc m) a) n ≡ false → (a < limit n) × (outside (span m (a + 4)) n ≡ false)
@@ -145,7 +175,7 @@ module _ (n : Board) (short : n.size ≤ most_bytes) where
     where
       go : (t : Bool) → by_register? i.operand ≡ t → OkOwn (Instruction.Processing i) s.status n (first_step (Instruction.Processing i) s.registers s.status pc s.memory)
       go true t = rw t (record { known = refl; allowed = in-every _ s q.allowed; has = rw t (omega arith); inside = refl }, refl)
-      go false t = rw t (ends-ok (Instruction.Processing i) s.status n (last (processed i s.registers s.status pc) s.memory) (processed i s.registers s.status pc).goes)
+      go false t = rw t (ends-ok (Instruction.Processing i) s.status n (last (processed i s.registers s.status pc) s.memory) (processed i s.registers s.status pc).goes (processed-refills i s.registers s.status pc) (in-every _ s q.allowed))
   first-ok (Instruction.Single i) s pc b q e =
       (record { known = refl; allowed = in-every _ s q.allowed; has = single-has i s.registers; inside = rw (e, b) at q.inside }, refl)
   first-ok (Instruction.Block i) s pc b q e =
@@ -154,7 +184,9 @@ module _ (n : Board) (short : n.size ≤ most_bytes) where
       let z : block.count i - 0 ≡ block.count i = omega arith in
       let inside = rw (from-span (block.named i.list) (block.lowest_address i s.registers), b) at q.inside in
       (record { known = refl; allowed = in-every _ s q.allowed; has = block-has i 0 s.registers (omega arith); inside = rw z inside }, refl)
-  first-ok (Instruction.Branch i) s pc b q e = ends-ok (Instruction.Branch i) s.status n (last (branched i s.registers s.status (behind pc 8)) s.memory) (branched i s.registers s.status (behind pc 8)).goes
+  first-ok (Instruction.Branch i) s pc b q e =
+      ends-ok (Instruction.Branch i) s.status n (last (branched i s.registers s.status (behind pc 8)) s.memory) (branched i s.registers s.status (behind pc 8)).goes
+      (unfold branched stores_counter in refl) (in-every _ s q.allowed)
   first-ok (Instruction.Multiply i) s pc b q e =
       (record { known = refl; allowed = in-every _ s q.allowed; has = (m-bounds (rs_of i s.registers)).0; inside = refl }, refl)
   first-ok (Instruction.Other w) s pc b q e = tt
@@ -167,6 +199,7 @@ module _ (n : Board) (short : n.size ≤ most_bytes) where
   unfolding load_step
   load_ok i e k g f l mem m [] d = tt
   load_ok i e k g f l mem m (x ∷ []) d = ends-ok (Instruction.Block i) f n (load_step k (x ∷ []) g f l mem) (arrives g f x l.datum).goes
+      (load-refills i k x g f l.datum mem d ∙ unfold stores_counter in ap (λ b. pick (b && bit i.list 15) 2 0) (sym e)) m.allowed
   load_ok i e k g f l mem m (x ∷ (y ∷ ys)) d =
       let c = drop-count (block.named i.list) k x (y ∷ ys) d in
       let now : block.count i - suc k ≡ suc (length ys) = omega (arith, c) in
@@ -229,6 +262,7 @@ module _ (n : Board) (short : n.size ≤ most_bytes) where
       let x : extra (Instruction.Single i) g ≡ 2 = ap (λ b. pick b 2 1) e in
       (record { known = refl; allowed = m.allowed; has = omega arith; inside = refl }, refl)
   single-load-ok i e (suc k) g f l mem m = ends-ok (Instruction.Single i) f n (load_later i (suc k) g f l mem) (arrives g f i.rd l.datum).goes
+      (arriving g f i.rd l.datum ∙ unfold stores_counter in ap (λ b. pick (b && not (ltb i.rd 15)) 2 0) (sym e)) m.allowed
 
   -- steps 2 to m of a multiply leave the registers, and so m
   multiply-ok : (i : Multiply) (k : ℕ) (g : List ℕ) (f : ℕ) (mem : Memory) {address : ℕ} → Mid (Instruction.Multiply i) k g address n
@@ -237,13 +271,13 @@ module _ (n : Board) (short : n.size ≤ most_bytes) where
   multiply-ok i k g f mem m = go (ltb (suc k) (m_of (rs_of i g))) refl
     where
       go : (b : Bool) → ltb (suc k) (m_of (rs_of i g)) ≡ b
-          → OkOwn (Instruction.Multiply i) f n (pick b (own g (still f (More (Later (suc k)))) mem) (last (multiplied i g f) mem))
+          → OkOwn (Instruction.Multiply i) f n (pick b (own g (still f (More (Later (suc k)))) mem) (multiply_last (m_of (rs_of i g)) (multiplied i g f) mem))
       go true e = (record { known = refl; allowed = m.allowed; has = ltb-true _ _ e; inside = refl }, refl)
-      go false e = ends-ok (Instruction.Multiply i) f n (last (multiplied i g f) mem) (multiplied i g f).goes
+      go false e = tt
 
   later-ok : (i : Instruction) (k : ℕ) (g : List ℕ) (f pc : ℕ) (l : Latches) (mem : Memory) → Mid i k g l.address n → OkOwn i f n (later_step i k g f pc l mem)
   unfolding later_step
-  later-ok (Instruction.Processing i) k g f pc l mem m = ends-ok (Instruction.Processing i) f n (last (processed i g f pc) mem) (processed i g f pc).goes
+  later-ok (Instruction.Processing i) k g f pc l mem m = ends-ok (Instruction.Processing i) f n (last (processed i g f pc) mem) (processed i g f pc).goes (processed-refills i g f pc) m.allowed
   later-ok (Instruction.Single i) k g f pc l mem m = go i.l refl
     where
       go : (b : Bool) → i.l ≡ b → OkOwn (Instruction.Single i) f n (pick b (load_later i k g f l mem) (store_later i g f l mem))
@@ -265,13 +299,13 @@ module _ (n : Board) (short : n.size ≤ most_bytes) where
       → bad_phase (phase_after e) m ≡ false
   unfolding due
   of-ok w o (More Step1) p f m x ps ok i fl a b rg = refl
-  of-ok w o (More Refill1) p f m x ps ok i fl a b rg = refl
-  of-ok w o (More Refill2) p f m x ps ok i fl a b rg = refl
+  of-ok w o (More Refill1) p f m x ps ok i fl a b rg = absurd ok
+  of-ok w o (More Refill2) p f m x ps ok i fl a b rg = absurd ok
   of-ok w o (More (Later j)) p f m x ps ok i fl a b rg =
       let d : due m.control.pipe.ix m.control.flags ≡ executes (read_of w) = rw (i ∙ x, fl ∙ ok.1, ps) in
       ap (λ (y : Due). bad_step y j m) d ∙ of-mid (read_of w) j m (rw (a, b, rg) ok.0)
   of-ok w o (Done k) p f m x ps ok i fl a b rg = refl
-  of-ok w o (Jump v) p f m x ps ok i fl a b rg = refl
+  of-ok w o (Jump v) p f m x ps ok i fl a b rg = ap (λ (y : Option ℕ). bad_refill y m) (i ∙ x) ∙ stored-fine w m (named w f ps) ok.0 (ok.1 (state_later m))
 
   -- the phase that a cycle leaves, of a core in its parts
   module _ (g : List ℕ) (f pc : ℕ) (ir1 ir2 : Option ℕ) (l : Latches) (cs : Counts) (q : ℕ) (mem : List ℕ) where
@@ -287,7 +321,7 @@ module _ (n : Board) (short : n.size ≤ most_bytes) where
         → m.registers ≡ (own_of ph (core ph x)).registers
         → bad_phase (phase_after (step_of ph x).after) m ≡ false
     unfolding own_of due stop_for
-    own-fine Refill1 x b z r m i fl ad bd rg = refl
+    own-fine Refill1 x b z r m i fl ad bd rg = ap (λ (y : Option ℕ). bad_refill y m) i ∙ refill-alike x m (core Refill1 x) ∙ b
     own-fine Refill2 x b z r m i fl ad bd rg = refl
     own-fine Step1 None b z r m i fl ad bd rg = refl
     own-fine Step1 (Some w) b z r m i fl ad bd rg = go (passes (field w 28 4) f) refl z i fl ad rg
@@ -338,7 +372,7 @@ retired-counts : (e : After) (k c : ℕ) → k ≤ c → retired_by e k ≤ suc 
 retired-counts (More ph) k c h = omega arith
 retired-counts (Done Start) k c h = omega arith
 retired-counts (Done Skipped) k c h = omega arith
-retired-counts (Done Executed) k c h = omega arith
+retired-counts (Done (Executed m)) k c h = omega arith
 retired-counts (Jump w) k c h = omega arith
 
 -- a core whose record is not bad but for its count of cycles, with no stop held

@@ -5,6 +5,7 @@ use Rattle.plain.specs.Numbers.{start_answer}
 use Rattle.plain.specs.Refused.{record_refused, other_memory, too_many_cycles}
 use Rattle.plain.specs.Running.{Ran, Started, ran, started, unless}
 use Rattle.steps.specs.declared.Phase.TheVariants.{Step1}
+use Rattle.semantics.specs.Sums.{no_sums}
 use Rattle.steps.specs.Steps.{idle}
 use Rattle.cycle.specs.declared.Control.{Control}
 use Rattle.cycle.specs.Machine.{Machine, machine, pipe, counts, most_cycles}
@@ -29,7 +30,7 @@ zeroed =
       pipe = pipe 0 None None None;
       phase = Step1;
       latches = idle;
-      counts = counts 0 0;
+      counts = counts 0 0 no_sums;
       stop = 0;
       board = record { size = 0 };
     })

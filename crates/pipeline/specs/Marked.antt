@@ -2,6 +2,7 @@
 use Rattle.std.specs.Prelude.{ℕ, ◌≡◌, List, [], ◌∷◌, length, replicate}
 use Rattle.datapath.specs.Marked as datapath
 use Rattle.stops.specs.Marked as stops
+use Rattle.semantics.specs.Sums.{ticks}
 use Rattle.semantics.specs.Marked as semantics
 use Rattle.cycle.specs.Machine.{Machine, machine}
 use Rattle.plain.specs.Running.{Ran}
@@ -23,6 +24,7 @@ pub record Report : Type 0 where
   pub answer : reported.answer ≡ 22
   pub pc : reported.machine.control.pipe.pc ≡ 0x14
   pub cycles : reported.machine.control.counts.cycles ≡ 21
+  pub ticks : ticks reported.machine.control.counts.sums ≡ 26
   pub retired : reported.machine.control.counts.retired ≡ 11
   pub flags : reported.machine.control.flags ≡ 6
   pub registers : reported.machine.registers ≡ replicate 15 0

@@ -1,11 +1,14 @@
--- Term 3 (paper 01; settle: paper 02, §2): what every list of calls, run or settle, from an accepted start answers and leaves, in terms of the plain machine.
-use Rattle.std.specs.Prelude.{ℕ, ◌+◌, ◌-◌, ◌^◌, ◌≤◌, ◌<◌, ◌≡◌, false, List, [], ◌∷◌, ◌≢◌, ◌⊎◌, length}
+-- Term 3 (paper 01; settle: paper 02, §2; the three sums: §3): what every list of calls, run or settle, from an accepted start answers and leaves, in terms of the plain machine.
+use Rattle.std.specs.Prelude.{ℕ, ◌+◌, ◌-◌, ◌^◌, ◌≤◌, ◌<◌, ◌≡◌, false, List, [], ◌∷◌, ◌≢◌, ◌⊎◌, length, ltb}
 use Rattle.plain.specs.Machine as plain
 use Rattle.plain.specs.Run as plain_calls
 use Rattle.plain.specs.Starts.{Answered}
-use Rattle.plain.specs.Trace.{trace, stop_met, durations, Does}
+use Rattle.bits.specs.Choice.{pick}
+use Rattle.semantics.specs.declared.Sums.{Sums}
+use Rattle.semantics.specs.Sums.{no_sums, plus, total, start_sums}
+use Rattle.plain.specs.Trace.{trace, stop_met, durations, added, Does}
 use Rattle.steps.specs.declared.Phase.TheVariants.{Step1}
-use Rattle.cycle.specs.Machine.{Machine, machine}
+use Rattle.cycle.specs.Machine.{Machine, machine, counts}
 use Rattle.refusals.specs.Numbers.{bad}
 use Rattle.runs.specs.Boundary.{boundary, lead}
 use Rattle.runs.specs.CyclesLeft.{cycles_left}
@@ -36,6 +39,14 @@ pub record Begins (g : List ℕ) (flags entry : ℕ) (mem : List ℕ) : Type 0 w
 -- 2 plus the durations of the plain machine's first k instructions
 unfoldable pub sums : plain.Machine → ℕ → ℕ
 sums p k = 2 + durations p k
+
+-- the three sums after the plain machine's first k instructions: the start's plus theirs
+unfoldable pub sums_after : plain.Machine → ℕ → Sums
+sums_after p k = plus start_sums (added p k)
+
+-- at total t, with k instructions retired: the start's are counted when its refill ends
+unfoldable pub sums_at : plain.Machine → ℕ → ℕ → Sums
+sums_at p t k = pick (ltb t 2) no_sums (sums_after p k)
 
 -- the plain machine stops with q, and its stop total is t
 pub record Stops (p : plain.Machine) (t q : ℕ) : Type 0 where
@@ -167,11 +178,15 @@ pub record Leaves (p : plain.Machine) (m₀ m : Machine) (t q : ℕ) : Type 0 wh
   pub retired : Greatest p t m.control.counts.retired
   -- the cycles counted are the durations of the instructions done and the steps under way
   pub counted : t ≡ durations p m.control.counts.retired + lead m
+  -- the three sums are those of the last retirement
+  pub three_sums : m.control.counts.sums ≡ sums_at p t m.control.counts.retired
   -- never more than 19 cycles from a boundary
   pub distance : (d : ℕ) × Distance p t d × (d ≤ 19)
-  -- a boundary exactly where t is a sum: there registers, flags, PC less 8 and memory are the plain machine's
-  pub there : (k : ℕ) → Does p k → sums p k ≡ t → m ≡ holding (boundary (trace p k) k t) q
+  -- a boundary exactly where t is a sum: there registers, flags, PC less 8, memory and the three sums are the plain machine's
+  pub there : (k : ℕ) → Does p k → sums p k ≡ t → m ≡ holding (boundary (trace p k) (counts t k (sums_after p k))) q
   pub only : m.control.phase ≡ Step1 → (k : ℕ) × Does p k × (sums p k ≡ t)
+  -- where N+S+I equals the cycles
+  pub timed : m.control.phase ≡ Step1 → total m.control.counts.sums ≡ t
 
 -- what any call after the list does, whatever it is lent
 pub record Further (p : plain.Machine) (n t : ℕ) (m : Machine) (c : Call) : Type 0 where

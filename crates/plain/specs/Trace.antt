@@ -1,6 +1,9 @@
--- The plain machine after k instructions, and the durations of those: what the theorem on the core speaks of.
+-- The plain machine after k instructions, and the durations and the sums of those: what the theorem on the core speaks of.
 use Rattle.std.specs.Prelude.{ℕ, zero, suc, ◌+◌, ◌<◌, ◌≡◌, ◌≢◌}
-use Rattle.plain.specs.Machine.{Machine, step, performed_at}
+use Rattle.memory.specs.Memory.{word_at}
+use Rattle.semantics.specs.declared.Sums.{Sums}
+use Rattle.semantics.specs.Sums.{no_sums, plus, performs_sums}
+use Rattle.plain.specs.Machine.{Machine, state_of, step, performed_at}
 use Rattle.plain.specs.Running.{ran}
 use Rattle.plain.specs.Run.{run}
 
@@ -20,6 +23,15 @@ duration m = (performed_at m).performed.cycles
 unfoldable pub durations : Machine → ℕ → ℕ
 durations m zero = 0
 durations m (suc k) = durations m k + duration (trace m k)
+
+-- the sums that it adds
+unfoldable pub adds : Machine → Sums
+adds m = performs_sums (word_at (state_of m).memory m.plain.a) (state_of m)
+
+-- those of the first k instructions
+unfoldable pub added : Machine → ℕ → Sums
+added m zero = no_sums
+added m (suc k) = plus (added m k) (adds (trace m k))
 
 -- it does k instructions before its stop
 abbrev pub Does : Machine → ℕ → Type 0

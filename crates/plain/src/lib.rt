@@ -14,6 +14,7 @@ use memory::Board;
 use numbers::{refusal, start_answer};
 use refused::Refusal;
 use registers::Context;
+use semantics::Tally;
 use stops::reason::{Stop, number};
 use whole::{LONGEST, wholes};
 
@@ -99,7 +100,15 @@ impl Plain {
             a: self.a,
             board: self.board,
         };
-        let came = wholes(&mut self.registers, memory, from, count, count * LONGEST);
+        let mut w = Tally::default();
+        let came = wholes(
+            &mut self.registers,
+            memory,
+            from,
+            count,
+            count * LONGEST,
+            &mut w,
+        );
         Ok(Ran {
             stop: came.stop,
             used: came.done,

@@ -14,10 +14,11 @@ use Rattle.stops.specs.declared.reason.NoStop.{NoStop}
 use Rattle.stops.specs.Numbers.{no_word, fetched_word, number_of, held_number}
 use Rattle.plain.proofs.Accepted.{no-stop-zero}
 use Rattle.plain.specs.Numbers.{bad_length, bad_flags, bad_budget, is_counter, is_stop}
-use Rattle.steps.proofs.Both.{or-false}
+use Rattle.stops.proofs.Both.{or-false}
+use Rattle.semantics.specs.Sums.{total}
 use Rattle.cycle.specs.declared.Control.{Control}
 use Rattle.cycle.specs.Machine.{Machine, most_cycles}
-use Rattle.refusals.specs.Numbers.{bad_phase, held_away, bad, refusal}
+use Rattle.refusals.specs.Numbers.{bad_counts, bad_phase, held_away, bad, refusal}
 
 -- what a record that is not bad passes
 pub record Good (m : Machine) : Type 0 where
@@ -26,6 +27,7 @@ pub record Good (m : Machine) : Type 0 where
   pub flags : bad_flags m.control.flags ≡ false
   pub few : m.control.counts.cycles ≤ most_cycles
   pub behind : m.control.counts.retired ≤ m.control.counts.cycles
+  pub timed : total m.control.counts.sums ≤ m.control.counts.cycles
   pub stop : is_stop m.control.stop ≡ true
   pub phase : bad_phase m.control.phase m ≡ false
 
@@ -36,23 +38,26 @@ good m e =
     let e1 = or-false (bad_length c.board.size) e in
     let e2 = or-false (not (is_counter c.pipe.pc)) e1.1 in
     let e3 = or-false (bad_flags c.flags) e2.1 in
-    let e4 = or-false (ltb most_cycles c.counts.cycles) e3.1 in
-    let e5 = or-false (ltb c.counts.cycles c.counts.retired) e4.1 in
-    let e6 = or-false (not (is_stop c.stop)) e5.1 in
+    let e4 = or-false (bad_counts c.counts) e3.1 in
+    let e5 = or-false (ltb most_cycles c.counts.cycles) e4.0 in
+    let e6 = or-false (ltb c.counts.cycles c.counts.retired) e5.1 in
+    let e7 = or-false (not (is_stop c.stop)) e4.1 in
     record {
       sized = e1.0;
       counter = not-false (is_counter c.pipe.pc) e2.0;
       flags = e3.0;
-      few = ltb-false most_cycles c.counts.cycles e4.0;
-      behind = ltb-false c.counts.cycles c.counts.retired e5.0;
-      stop = not-false (is_stop c.stop) e6.0;
-      phase = (or-false (held_away c.phase c.stop) e6.1).1;
+      few = ltb-false most_cycles c.counts.cycles e5.0;
+      behind = ltb-false c.counts.cycles c.counts.retired e6.0;
+      timed = ltb-false c.counts.cycles (total c.counts.sums) e6.1;
+      stop = not-false (is_stop c.stop) e7.0;
+      phase = (or-false (held_away c.phase c.stop) e7.1).1;
     }
 
 -- an accepted run has room to count its cycles
 pub record Granted (budget : ℕ) (c : Control) : Type 0 where
   pub room : c.counts.cycles + budget ≤ most_cycles
   pub behind : c.counts.retired ≤ c.counts.cycles
+  pub timed : total c.counts.sums ≤ c.counts.cycles
   pub standing : is_stop c.stop ≡ true
 
 -- a test with a number passed
@@ -70,6 +75,7 @@ granted lent budget m e =
     record {
       room = ltb-false most_cycles (m.control.counts.cycles + budget) t.0;
       behind = (good m b.0).behind;
+      timed = (good m b.0).timed;
       standing = (good m b.0).stop;
     }
 

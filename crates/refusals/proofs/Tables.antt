@@ -15,18 +15,20 @@ use Rattle.refusals.specs.Numbers.{bad_within, bad, refusal}
 use Rattle.refusals.specs.Tables.{BadRecords, RefusalOrder, Tables}
 
 bad-records : BadRecords
-unfolding bits.field bits.bit reader.read_of condition.passes register first_above m_of block.named_from block.named duration.own_steps rules.rule_broken limit due bad_within bad
+unfolding bits.field bits.bit reader.read_of condition.passes register first_above m_of block.named_from block.named duration.own_steps duration.stores_counter rules.rule_broken limit due bad_within bad
 bad-records = record {
   length = (refl, refl);
   counter = (refl, refl);
   flags = (refl, refl);
   cycles = (refl, refl);
   retired = (refl, refl);
+  sums = (refl, refl);
   stop = (refl, refl);
   held = (refl, refl);
   free = (refl, refl);
   word = (refl, refl);
-  refill = (refl, refl);
+  refill_1 = (refl, refl);
+  refill_2 = (refl, refl);
   one_step = (refl, refl);
   shift_steps = (refl, refl);
   load_steps = (refl, refl);

@@ -21,7 +21,7 @@ use Rattle.stops.specs.Stops.{Due, executes}
 use Rattle.refusals.specs.Numbers.{left_to_move, state_later, bad_within, bad_step}
 
 -- no rule has the number 0
-numbered : (rule : Rule) → true ≡ not (eqb (number_of_rule rule) 0)
+pub numbered : (rule : Rule) → true ≡ not (eqb (number_of_rule rule) 0)
 numbered ShiftBy15 = refl
 numbered TestWithoutS = refl
 numbered WritesBase15 = refl

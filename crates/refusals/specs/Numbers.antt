@@ -1,12 +1,14 @@
 -- What makes a record bad, and what a run refuses with (paper 01, "Numbers caused by the state").
-use Rattle.std.specs.Prelude.{ℕ, suc, ◌+◌, ◌-◌, Bool, true, false, not, ◌||◌, ltb, eqb}
+use Rattle.std.specs.Prelude.{ℕ, suc, ◌+◌, ◌-◌, Bool, true, false, not, ◌&&◌, ◌||◌, ltb, eqb, Option, Some, None}
 use Rattle.bits.specs.Choice.{pick}
+use Rattle.bits.specs.Bits.{field}
 use Rattle.word.specs.declared.Instruction.{Instruction}
-use Rattle.word.specs.Reader.{is_other}
+use Rattle.word.specs.Reader.{read_of, is_other}
 use Rattle.datapath.specs.Counter.{behind}
 use Rattle.registers.specs.State.{State, state}
 use Rattle.transfer.specs.Block.{count}
-use Rattle.semantics.specs.Duration.{own_steps}
+use Rattle.semantics.specs.Duration.{own_steps, stores_counter}
+use Rattle.semantics.specs.Sums.{total}
 use Rattle.stops.specs.Rules.{rule_broken}
 use Rattle.stops.specs.Moves.{span}
 use Rattle.stops.specs.Stops.{Due, no_word_there, skipped, executes, due, outside}
@@ -14,6 +16,7 @@ use Rattle.plain.specs.Refused.{budget_refused, record_refused, other_memory, to
 use Rattle.plain.specs.Numbers.{bad_length, bad_flags, bad_budget, is_counter, is_stop}
 use Rattle.steps.specs.declared.Phase.{Phase}
 use Rattle.steps.specs.declared.Phase.TheVariants.{Step1, Refill1, Refill2, Later}
+use Rattle.cycle.specs.declared.Counts.{Counts}
 use Rattle.cycle.specs.Machine.{Machine, lent, most_cycles}
 
 -- the words still to be moved at step k + 2
@@ -43,11 +46,27 @@ bad_step no_word_there k m = true
 bad_step skipped k m = true
 bad_step (executes i) k m = bad_within i k m
 
--- refills are not steps
+-- an instruction that can store the counter: it breaks no rule of 23, and its class and fields do (paper 02, §3)
+abbrev pub can_store : Instruction → State → Bool
+can_store i s = eqb (rule_broken i s) 0 && stores_counter i
+
+-- the condition that never passes
+abbrev pub never : ℕ
+never = 15
+
+-- such a word: by itself, since its instruction may have changed the flags that its condition passed
+abbrev pub can_store_counter : ℕ → State → Bool
+can_store_counter w s = not (eqb (field w 28 4) never) && can_store (read_of w) s
+
+-- a refill of a word that can't store the counter; of no word it is the start's
+abbrev pub bad_refill : Option ℕ → Machine → Bool
+bad_refill None m = false
+bad_refill (Some w) m = not (can_store_counter w (state_later m))
+
 abbrev pub bad_phase : Phase → Machine → Bool
 bad_phase Step1 m = false
-bad_phase Refill1 m = false
-bad_phase Refill2 m = false
+bad_phase Refill1 m = bad_refill m.control.pipe.ix m
+bad_phase Refill2 m = bad_refill m.control.pipe.ix m
 bad_phase (Later k) m = bad_step (due m.control.pipe.ix m.control.flags) k m
 
 -- a stop held away from step 1
@@ -57,6 +76,10 @@ held_away Refill1 stop = not (eqb stop 0)
 held_away Refill2 stop = not (eqb stop 0)
 held_away (Later k) stop = not (eqb stop 0)
 
+-- cycles above 2^40, or retired or the three sums together above the cycles
+abbrev pub bad_counts : Counts → Bool
+bad_counts n = ltb most_cycles n.cycles || (ltb n.cycles n.retired || ltb n.cycles (total n.sums))
+
 -- 11: a bad record
 unfoldable pub bad : Machine → Bool
 bad m =
@@ -64,11 +87,10 @@ bad m =
     bad_length c.board.size
     || (not (is_counter c.pipe.pc)
     || (bad_flags c.flags
-    || (ltb most_cycles c.counts.cycles
-    || (ltb c.counts.cycles c.counts.retired
+    || (bad_counts c.counts
     || (not (is_stop c.stop)
     || (held_away c.phase c.stop
-    || bad_phase c.phase m))))))
+    || bad_phase c.phase m)))))
 
 -- what a run that is lent so many bytes refuses with, or 0: 12, 11, 3, 13
 unfoldable pub refusal : ℕ → ℕ → Machine → ℕ

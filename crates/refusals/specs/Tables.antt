@@ -4,6 +4,8 @@ use Rattle.steps.specs.declared.Phase.{Phase}
 use Rattle.steps.specs.declared.Phase.TheVariants.{Step1, Refill1, Refill2, Later}
 use Rattle.steps.specs.Steps.{latches, idle}
 use Rattle.cycle.specs.declared.Control.{Control}
+use Rattle.semantics.specs.declared.Sums.{Sums}
+use Rattle.semantics.specs.Sums.{nsi, no_sums}
 use Rattle.cycle.specs.Machine.{machine, pipe, counts}
 use Rattle.cycle.specs.CycleTable.{registers}
 use Rattle.refusals.specs.Numbers.{bad, refusal}
@@ -22,9 +24,21 @@ standing n pc f cycles retired stop = record {
   pipe = pipe pc None None None;
   phase = Step1;
   latches = idle;
-  counts = counts cycles retired;
+  counts = counts cycles retired no_sums;
   stop = stop;
   board = record { size = n };
+}
+
+-- with sums, after 9 cycles
+abbrev pub summed : Sums → Control
+summed q = record {
+  flags = 0;
+  pipe = pipe 8 None None None;
+  phase = Step1;
+  latches = idle;
+  counts = counts 9 1 q;
+  stop = 0;
+  board = record { size = 16 };
 }
 
 -- with a word under way, in memory of 16 bytes: IX, phase, address latch, stop
@@ -34,7 +48,7 @@ under ix ph address stop = record {
   pipe = pipe 12 None None ix;
   phase = ph;
   latches = latches address 0 0;
-  counts = counts 9 1;
+  counts = counts 9 1 no_sums;
   stop = stop;
   board = record { size = 16 };
 }
@@ -42,6 +56,10 @@ under ix ph address stop = record {
 -- words with later steps: a shift by register, a load, a store, blocks of R1, R2 and R8, and MUL R10, R3 by R0, R2 and R5, which hold 0, 3 and 40
 abbrev pub shift : Option ℕ
 shift = Some 0xE1A01312
+
+-- into R15: MOV R15, R2, LSL R3
+abbrev pub shift_counter : Option ℕ
+shift_counter = Some 0xE1A0F312
 
 abbrev pub load : Option ℕ
 load = Some 0xE5954000
@@ -58,6 +76,17 @@ block_store = Some 0xE8870106
 abbrev pub multiply_by : ℕ → Option ℕ
 multiply_by rs = Some (0xE00A0093 + 256 * rs)
 
+-- words for a refill: a branch, MOV R15, LDR R15, LDMIA of R15, and each on a condition that fails
+abbrev pub can_store : List (Option ℕ)
+can_store =
+    Some 0xEA000000 ∷ Some 0xE1A0F001 ∷ shift_counter ∷ Some 0xE595F000 ∷ Some 0xE8978000 ∷ Some 0x0A000000 ∷ Some 0x01A0F001 ∷ Some 0x0595F000
+    ∷ Some 0x08978000 ∷ []
+
+abbrev pub cannot_store : List (Option ℕ)
+cannot_store =
+    Some 0xEF000000 ∷ shift ∷ load ∷ store ∷ Some 0xE585F000 ∷ block_load ∷ Some 0xE8878000 ∷ Some 0xE151F002 ∷ multiply_by 0
+    ∷ Some 0xFA000000 ∷ Some 0xF1A0F001 ∷ Some 0xE1A0FF12 ∷ Some 0xE5D5F000 ∷ Some 0xE8D78000 ∷ []
+
 -- the clauses of 11; an Other has one step, so that one that meets 22 in step 2 lacks that step too
 pub record BadRecords : Type 0 where
   -- length breaks 1
@@ -70,17 +99,21 @@ pub record BadRecords : Type 0 where
   pub cycles : Tells (λ t. standing 16 8 0 t 1 0) (0x10000000001 ∷ []) (0x10000000000 ∷ [])
   -- retired above cycles
   pub retired : Tells (λ k. standing 16 8 0 9 k 0) (10 ∷ []) (9 ∷ [])
+  -- the three sums together above cycles
+  pub sums : Tells summed (nsi 10 0 0 ∷ nsi 0 10 0 ∷ nsi 0 0 10 ∷ nsi 4 3 3 ∷ []) (nsi 9 0 0 ∷ nsi 0 9 0 ∷ nsi 0 0 9 ∷ nsi 3 3 3 ∷ no_sums ∷ [])
   -- stop not 0 or 21..25
   pub stop : Tells (λ q. standing 16 8 0 9 1 q) (1 ∷ 20 ∷ 26 ∷ []) (0 ∷ 21 ∷ 25 ∷ [])
   -- or held away from step 1
-  pub held : Tells (λ ph. under shift ph 0 22) (Refill1 ∷ Refill2 ∷ Later 0 ∷ []) (Step1 ∷ [])
-  pub free : Tells (λ ph. under shift ph 0 0) [] (Refill1 ∷ Refill2 ∷ Later 0 ∷ Step1 ∷ [])
-  -- step 2 where IX is blank, meets 22, meets 23 (Rs = 15; a byte with Rd = 15; block with S; multiply by R15), or fails its condition; refills aren't
-  -- steps
+  pub held : Tells (λ ph. under shift_counter ph 0 22) (Refill1 ∷ Refill2 ∷ Later 0 ∷ []) (Step1 ∷ [])
+  pub free : Tells (λ ph. under shift_counter ph 0 0) [] (Refill1 ∷ Refill2 ∷ Later 0 ∷ Step1 ∷ [])
+  -- step 2 where IX is blank, meets 22, meets 23 (Rs = 15; a byte with Rd = 15; block with S; multiply by R15), or fails its condition
   pub word :
       Tells (λ ix. under ix (Later 0) 0 0) (None ∷ Some 0xEF000000 ∷ Some 0xE1A01F12 ∷ Some 0xE5D5F000 ∷ Some 0xE8D70106 ∷ multiply_by 15 ∷ Some 0x01A01312 ∷ [])
       (shift ∷ load ∷ store ∷ block_load ∷ block_store ∷ multiply_by 0 ∷ [])
-  pub refill : Tells (λ ix. under ix Refill1 0 0) [] (None ∷ Some 0xEF000000 ∷ [])
+  -- a refill of a word that can't store the counter: by its class and fields (an Other; a register loaded, R15 stored; CMP with Rd = 15; multiply); for its
+  -- condition is never; for it meets 23 (MOV R15 by R15; a byte into R15; block with S). Of one that can, whatever the flags are now; of none it is the start's
+  pub refill_1 : Tells (λ ix. under ix Refill1 0 0) cannot_store (None ∷ can_store)
+  pub refill_2 : Tells (λ ix. under ix Refill2 0 0) cannot_store (None ∷ can_store)
   -- or lacks that step
   pub one_step : Tells (λ ix. under ix (Later 0) 0 0) (Some 0xE1A01002 ∷ Some 0xEA000000 ∷ []) []
   pub shift_steps : Tells (λ k. under shift (Later k) 0 0) (1 ∷ []) (0 ∷ [])

@@ -2,4 +2,5 @@
 #![tactic(auto)]
 
 pub mod numbers;
+mod refill;
 mod under_way;

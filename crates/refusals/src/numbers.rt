@@ -3,13 +3,15 @@ ghost use Rattle.std.specs.Prelude.{◌≡◌, not, ◌||◌, List, ℕ, ltb};
 ghost use Rattle.plain.specs.Refused.{refusal_number, at_once_number};
 ghost use Rattle.plain.specs.Numbers.{is_stop};
 ghost use Rattle.stops.specs.Stops.{due};
+ghost use Rattle.semantics.specs.Sums.{total};
 ghost use Rattle.cycle.specs.Machine.{machine, most_cycles};
-ghost use Rattle.refusals.specs.Numbers.{bad_step, bad_phase, held_away, bad, refusal, at_once};
+ghost use Rattle.refusals.specs.Numbers.{bad_step, bad_phase, bad_counts, held_away, bad, refusal, at_once};
 
+use crate::refill::bad_refill;
 use crate::under_way::bad_word;
 use bits::field;
 use condition::passes;
-use cycle::Control;
+use cycle::{Control, Counts};
 use plain::numbers::{budget_is_bad, flags_are_bad, is_counter, is_stop, length_is_bad};
 use plain::refused::Refusal;
 use steps::Phase;
@@ -25,13 +27,13 @@ fn bad_step(k: u32, c: Control, registers: &[u32; 15]) -> bool
     }
 }
 
-// Refills are not steps.
 fn bad_phase(c: Control, registers: &[u32; 15]) -> bool
     ensures { (mem : List ℕ) → result ≡ bad_phase c.phase (machine registers.now c mem) }
 {
     match c.phase {
+        Phase::Step1 => false,
+        Phase::Refill1 | Phase::Refill2 => bad_refill(c),
         Phase::Later(k) => bad_step(k, c, registers),
-        _ => false,
     }
 }
 
@@ -45,13 +47,27 @@ fn held_away(phase: Phase, stop: u32) -> bool
 // The largest count of cycles.
 const MOST_CYCLES: u64 = 0x10000000000;
 
+// The three sums together pass the cycles.
+fn sums_pass_cycles(n: Counts) -> bool
+    ensures { result ≡ ltb n.cycles (total n.sums) }
+{
+    (n.cycles < n.sums.n)
+        || (n.cycles - n.sums.n < n.sums.s)
+        || (n.cycles - n.sums.n - n.sums.s < n.sums.i)
+}
+
+fn bad_counts(n: Counts) -> bool
+    ensures { result ≡ bad_counts n }
+{
+    (MOST_CYCLES < n.cycles) | ((n.cycles < n.retired) | sums_pass_cycles(n))
+}
+
 // What is tested of the counts, the stop and the phase.
 fn bad_progress(c: Control, registers: &[u32; 15]) -> bool
-    ensures { (mem : List ℕ) → result ≡ (ltb most_cycles c.counts.cycles || (ltb c.counts.cycles c.counts.retired || (not (is_stop c.stop) || (held_away c.phase c.stop || bad_phase c.phase (machine registers.now c mem))))) }
+    ensures { (mem : List ℕ) → result ≡ (bad_counts c.counts || (not (is_stop c.stop) || (held_away c.phase c.stop || bad_phase c.phase (machine registers.now c mem)))) }
 {
-    (MOST_CYCLES < c.counts.cycles)
-        | ((c.counts.cycles < c.counts.retired)
-            | (!is_stop(c.stop) | (held_away(c.phase, c.stop) | bad_phase(c, registers))))
+    bad_counts(c.counts)
+        | (!is_stop(c.stop) | (held_away(c.phase, c.stop) | bad_phase(c, registers)))
 }
 
 // 11

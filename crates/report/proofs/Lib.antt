@@ -1,3 +1,4 @@
 pub mod Room
 pub mod Told
 pub mod Marked
+pub mod OneRun

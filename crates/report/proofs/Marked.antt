@@ -1,16 +1,15 @@
 -- The paper's report: the values from where they are proved, the text of them by computing. Assumes nothing.
-use Prim.Native.Nat.{ℕ, ◌+◌}
+use Prim.Native.Nat.{ℕ}
 use mathlib.Core.Path.{◌≡◌, refl, ◌∙◌}
 use mathlib.Core.List.{List, [], ◌∷◌, ◌++◌}
 use native.Mathlib.Omega.{arith}
-use lib.ListN.{length, replicate}
 use Rattle.text.specs.Text.{hex_digits, decimal_digits}
 use Rattle.plain.specs.Machine as plain
 use Rattle.plain.specs.Numbers.{start_answer}
 use Rattle.pipeline.specs.Calls.{start}
 use Rattle.pipeline.specs.Marked.{reported, Report}
-use Rattle.pipeline.specs.Term3.{fresh, plain_fresh, running, call, Reply, reply_of, Calls, no_calls, accepted, Answers, other_length, too_many, too_far, repeats, stops, spends, AllAnswer, none, more}
-use Rattle.pipeline.proofs.Lists.{term3}
+use Rattle.report.proofs.OneRun.{one-run}
+use Rattle.pipeline.specs.Term3.{fresh, running, Reply, Answers, other_length, too_many, too_far, repeats, stops, spends, AllAnswer, none, more}
 use Rattle.pipeline.proofs.Marked as values
 use Rattle.report.specs.Lines.{register_line, register_lines}
 use Rattle.report.specs.Held.{registers, held}
@@ -20,7 +19,7 @@ use Rattle.report.specs.Marked.{bytes, sample_text, held_text, Marked}
 -- the lines of the run, whose numbers are the marked values
 lines : Report → answer_line reported.answer ++ core_lines reported.machine.registers reported.machine.control ≡ bytes sample_text
 unfolding answer_line core_lines register_line register_lines hex_digits decimal_digits
-lines r = rw (r.answer, r.pc, r.cycles, r.retired, r.flags, r.registers)
+lines r = rw (r.answer, r.pc, r.cycles, r.ticks, r.retired, r.flags, r.registers)
 
 told : core_lines registers held ≡ bytes held_text
 unfolding core_lines register_line register_lines hex_digits decimal_digits
@@ -43,11 +42,7 @@ one (more a none) e = first a e
 spent : (image : List ℕ) → (begun image).answer ≡ 0 → (finished image).answer ≡ 0 → (finished image).machine.control.counts.cycles ≡ 64
 unfolding begun finished fresh
 spent image accepts e =
-    let c = running image 64 in
-    let m = fresh (replicate 15 0) 0 0 image in
-    let calls : Calls (plain_fresh (replicate 15 0) 0 0 image) (length image) m 0 (c ∷ []) (reply_of (call c m) ∷ []) (call c m).machine (0 + (call c m).used) =
-    accepted {t = 0} {c = c} (record { lent = refl; small = omega arith; near = omega arith }) refl no_calls in
-    let f = term3.lists (replicate 15 0) 0 0 image accepts (c ∷ []) (reply_of (call c m) ∷ []) (call c m).machine (0 + (call c m).used) calls in
+    let f = one-run image accepts in
     f.leaves.cycles ∙ one f.answers e
 
 pub marked : Marked

@@ -1,4 +1,4 @@
--- The report is at most 290 bytes, so that a text holds all of it. Assumes nothing.
+-- The report is at most 317 bytes, so that a text holds all of it. Assumes nothing.
 use mathlib.Core.Path.{◌≡◌, sym, ap, ◌∙◌}
 use mathlib.Core.Bool.{Bool, true, false}
 use mathlib.Core.List.{List, [], ◌++◌}
@@ -10,6 +10,7 @@ use Rattle.text.specs.Text.{decimal_digits}
 use Rattle.text.specs.Output.{put}
 use Rattle.text.proofs.Put.{put-fits}
 use Rattle.text.proofs.Digits.{hex-length, decimal-length}
+use Rattle.semantics.specs.Sums.{ticks}
 use Rattle.cycle.specs.declared.Control.{Control}
 use Rattle.report.specs.Lines.{register_line, register_lines}
 use Rattle.report.specs.Report.{answer_line, core_lines, report_text, begun, finished, accepted}
@@ -22,17 +23,17 @@ answer-length : (answer : ℕ) → length (answer_line answer) ≤ 28
 unfolding answer_line
 answer-length answer = simp length-append (omega (arith, decimal-length 20 answer))
 
-core_length : (registers : List ℕ) (control : Control) → length (core_lines registers control) ≤ 262
+core_length : (registers : List ℕ) (control : Control) → length (core_lines registers control) ≤ 289
 unfolding core_lines
 core_length registers control =
     simp (length-append, hex-length, register-lines-length)
-    (omega (arith, decimal-length 20 control.counts.cycles, decimal-length 20 control.counts.retired))
+    (omega (arith, decimal-length 20 control.counts.cycles, decimal-length 20 (ticks control.counts.sums), decimal-length 20 control.counts.retired))
 
-pub report-length : (image : List ℕ) → length (report_text image) ≤ 290
+pub report-length : (image : List ℕ) → length (report_text image) ≤ 317
 unfolding report_text
 report-length image = go (accepted image)
   where
-    go : (b : Bool) → length (pick b (answer_line (finished image).answer ++ core_lines (finished image).machine.registers (finished image).machine.control) (answer_line (begun image).answer)) ≤ 290
+    go : (b : Bool) → length (pick b (answer_line (finished image).answer ++ core_lines (finished image).machine.registers (finished image).machine.control) (answer_line (begun image).answer)) ≤ 317
     go true = simp length-append (omega (arith, answer-length (finished image).answer, core_length (finished image).machine.registers (finished image).machine.control))
     go false = omega (arith, answer-length (begun image).answer)
 

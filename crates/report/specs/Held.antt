@@ -1,6 +1,7 @@
 -- A core with a value of its own in each place that a report tells.
 use Rattle.std.specs.Prelude.{ℕ, List, [], ◌∷◌, None}
 use Rattle.cycle.specs.declared.Control.{Control}
+use Rattle.semantics.specs.Sums.{nsi}
 use Rattle.cycle.specs.Machine.{pipe, counts}
 use Rattle.pipeline.specs.Calls.{zeroed}
 
@@ -11,4 +12,4 @@ registers =
 
 -- flags 10, at cycle 2^40
 abbrev pub held : Control
-held = record { flags = 10; pipe = pipe 0x3FFFFFC None None None; phase = zeroed.control.phase; latches = zeroed.control.latches; counts = counts 0x10000000000 987654321; stop = 0; board = record { size = 16 } }
+held = record { flags = 10; pipe = pipe 0x3FFFFFC None None None; phase = zeroed.control.phase; latches = zeroed.control.latches; counts = counts 0x10000000000 987654321 (nsi 0x8000000000 123456789 1000); stop = 0; board = record { size = 16 } }

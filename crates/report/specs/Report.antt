@@ -2,6 +2,7 @@
 use Rattle.std.specs.Prelude.{ℕ, List, [], ◌∷◌, ◌++◌, Bool, eqb, length, replicate}
 use Rattle.bits.specs.Choice.{pick}
 use Rattle.text.specs.Text.{hex_digits, decimal}
+use Rattle.semantics.specs.Sums.{ticks}
 use Rattle.cycle.specs.declared.Control.{Control}
 use Rattle.cycle.specs.Machine.{Machine, machine}
 use Rattle.pipeline.specs.declared.Core.{Core}
@@ -13,14 +14,15 @@ use Rattle.report.specs.Lines.{line, register_lines}
 unfoldable pub answer_line : ℕ → List ℕ
 answer_line answer = line (97 ∷ 110 ∷ 115 ∷ 119 ∷ 101 ∷ 114 ∷ 61 ∷ []) (decimal answer)
 
--- pc= cycles= retired= flags= and the registers
+-- pc= cycles= ticks= retired= flags= and the registers
 unfoldable pub core_lines : List ℕ → Control → List ℕ
 core_lines registers control =
     line (112 ∷ 99 ∷ 61 ∷ []) (hex_digits 8 control.pipe.pc)
     ++ (line (99 ∷ 121 ∷ 99 ∷ 108 ∷ 101 ∷ 115 ∷ 61 ∷ []) (decimal control.counts.cycles)
+    ++ (line (116 ∷ 105 ∷ 99 ∷ 107 ∷ 115 ∷ 61 ∷ []) (decimal (ticks control.counts.sums))
     ++ (line (114 ∷ 101 ∷ 116 ∷ 105 ∷ 114 ∷ 101 ∷ 100 ∷ 61 ∷ []) (decimal control.counts.retired)
     ++ (line (102 ∷ 108 ∷ 97 ∷ 103 ∷ 115 ∷ 61 ∷ []) (hex_digits 1 control.flags)
-    ++ register_lines 15 registers)))
+    ++ register_lines 15 registers))))
 
 -- how many cycles the report program's run may take
 abbrev pub budget : ℕ

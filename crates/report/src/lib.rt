@@ -3,12 +3,14 @@
 
 mod lines;
 
-ghost use Rattle.std.specs.Prelude.{◌≡◌, ◌++◌};
+ghost use Rattle.std.specs.Prelude.{◌≡◌, ◌++◌, ◌<◌, ◌^◌};
+ghost use Rattle.semantics.specs.Sums.{total, ticks};
 ghost use Rattle.text.specs.Output.{put};
 ghost use Rattle.report.specs.Report.{answer_line, core_lines, report_text, image_after};
 
 use lines::{decimal_line, hex_line, register_lines};
 use pipeline::Core;
+use semantics::Sums;
 use stops::reason::number;
 use text::Text;
 
@@ -25,18 +27,29 @@ fn answer_line(text: &mut Text, answer: u32)
     decimal_line(text, b"answer=", u64::from(answer));
 }
 
+// Ticks of the slot memory: two for a non-sequential cycle, one for any other.
+fn ticks(q: Sums) -> u64
+    requires { total q < 2 ^ 62 }
+    ensures { result ≡ ticks q }
+{
+    2 * q.n + q.s + q.i
+}
+
 fn core_lines(text: &mut Text, core: &Core)
+    requires { total core.now.control.counts.sums < 2 ^ 62 }
     ensures { text.new ≡ put text.old (core_lines core.now.registers core.now.control) }
 {
     let control = &core.control;
     hex_line(text, b"pc=", control.pipe.pc, 8);
     decimal_line(text, b"cycles=", control.counts.cycles);
+    decimal_line(text, b"ticks=", ticks(control.counts.sums));
     decimal_line(text, b"retired=", control.counts.retired);
     hex_line(text, b"flags=", control.flags, 1);
     register_lines(text, &core.registers);
 }
 
 fn run_lines(text: &mut Text, answer: u32, core: &Core)
+    requires { total core.now.control.counts.sums < 2 ^ 62 }
     ensures { text.new ≡ put text.old (answer_line answer ++ core_lines core.now.registers core.now.control) }
 {
     answer_line(text, answer);

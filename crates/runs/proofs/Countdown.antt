@@ -33,7 +33,7 @@ use Rattle.steps.specs.declared.Phase.TheVariants.{Step1, Refill1, Refill2, Late
 use Rattle.steps.specs.declared.After.{After}
 use Rattle.steps.specs.declared.After.TheVariants.{More, Done, Jump}
 use Rattle.steps.specs.declared.Latches.{Latches}
-use Rattle.steps.specs.Steps.{Own, own, ends, still, last, later_step, load_later, store_later, load_step, block_load_later, store_step, block_store_later, multiply_later}
+use Rattle.steps.specs.Steps.{Own, own, ends, still, last, multiply_last, later_step, load_later, store_later, load_step, block_load_later, store_step, block_store_later, multiply_later}
 use Rattle.cycle.specs.declared.Pipe.{Pipe}
 use Rattle.cycle.specs.declared.Counts.{Counts}
 use Rattle.cycle.specs.Machine.{Machine, machine, lent, pipe}
@@ -79,7 +79,7 @@ last-loaded f mem (y ∷ []) (suc k) x g a d = let n = drop-nil {A = ℕ} k in c
 last-loaded f mem (y ∷ (z ∷ zs)) zero x g a d = cc
 last-loaded f mem (y ∷ (z ∷ zs)) (suc k) x g a d = last-loaded f mem (z ∷ zs) k x _ _ d
 
-load-refills : (i : Block) (k x : ℕ) (g : List ℕ) (f v : ℕ) (mem : Memory) → drop k (block.named i.list) ≡ x ∷ [] → refills (arrives g f x v).goes ≡ pick (bit i.list 15) 2 0
+pub load-refills : (i : Block) (k x : ℕ) (g : List ℕ) (f v : ℕ) (mem : Memory) → drop k (block.named i.list) ≡ x ∷ [] → refills (arrives g f x v).goes ≡ pick (bit i.list 15) 2 0
 load-refills i k x g f v mem d = arriving g f x v ∙ sym (last-loaded f mem (block.named i.list) k x g 0 d) ∙ block-loading i f mem g 0
 
 processing-less : (i : Processing) (k : ℕ) (g : List ℕ) (f pc : ℕ) (mem : Memory) → k < extra (Instruction.Processing i) g → LessOwn (Instruction.Processing i) k g (last (processed i g f pc) mem)
@@ -136,11 +136,11 @@ multiply-less : (i : Multiply) (k : ℕ) (g : List ℕ) (f : ℕ) (mem : Memory)
 unfolding multiply_later
 multiply-less i k g f mem h = go (ltb (suc k) (m_of (rs_of i g))) refl
   where
-    go : (b : Bool) → ltb (suc k) (m_of (rs_of i g)) ≡ b → LessOwn (Instruction.Multiply i) k g (pick b (own g (still f (More (Later (suc k)))) mem) (last (multiplied i g f) mem))
+    go : (b : Bool) → ltb (suc k) (m_of (rs_of i g)) ≡ b → LessOwn (Instruction.Multiply i) k g (pick b (own g (still f (More (Later (suc k)))) mem) (multiply_last (m_of (rs_of i g)) (multiplied i g f) mem))
     go true e = (refl, refl)
     go false e =
         let m : m_of (rs_of i g) ≤ suc k = ltb-false _ _ e in
-        unfold multiplied in last_less (Instruction.Multiply i) k g (last (multiplied i g f) mem) None (omega arith) (unfold stores_counter in refl)
+        unfold multiplied in last_less (Instruction.Multiply i) k g (multiply_last (m_of (rs_of i g)) (multiplied i g f) mem) None (omega arith) (unfold stores_counter in refl)
 
 later-less : (i : Instruction) (k : ℕ) (g : List ℕ) (f pc : ℕ) (l : Latches) (mem : Memory) → k < extra i g → LessOwn i k g (later_step i k g f pc l mem)
 unfolding later_step

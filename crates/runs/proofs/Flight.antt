@@ -12,6 +12,8 @@ use Rattle.datapath.proofs.Counters.{ahead-ahead}
 use Rattle.memory.specs.declared.Board.{Board}
 use Rattle.memory.specs.Memory.{Memory, word_at}
 use Rattle.registers.specs.State.{State, state}
+use Rattle.semantics.specs.declared.Sums.{Sums}
+use Rattle.semantics.specs.Sums.{plus, sums_of}
 use Rattle.semantics.specs.Duration.{own_steps, refills, next_address}
 use Rattle.plain.specs.Machine as plain
 use Rattle.steps.specs.declared.Phase.{Phase}
@@ -27,15 +29,24 @@ use Rattle.cycle.specs.StopFound.{is_step1}
 use Rattle.cycle.specs.Cycle.{cycle, own_of, pipe_after, phase_after, counts_after}
 use Rattle.runs.specs.Boundary.{boundary, lead}
 
--- off a boundary, with k retired and u cycles beyond their durations
-pub record Aloft (k u : ℕ) (m : Machine) : Type 0 where
+-- off a boundary, with the last boundary's counts but for the cycles, and u cycles beyond the durations
+pub record Aloft (n : Counts) (u : ℕ) (m : Machine) : Type 0 where
   pub off : is_step1 m.control.phase ≡ false
-  pub retired : m.control.counts.retired ≡ k
+  pub retired : m.control.counts.retired ≡ n.retired
+  pub sums : m.control.counts.sums ≡ n.sums
   pub beyond : lead m ≡ u
 
-abbrev pub Flight : ℕ → ℕ → ℕ → Machine → Machine → Type 0
-Flight k u zero m e = m ≡ e
-Flight k u (suc n) m e = Aloft k u m × Flight k (suc u) n (cycle m) e
+abbrev pub Flight : Counts → ℕ → ℕ → Machine → Machine → Type 0
+Flight n u zero m e = m ≡ e
+Flight n u (suc j) m e = Aloft n u m × Flight n (suc u) j (cycle m) e
+
+-- the counts of a boundary, at a later cycle
+abbrev pub at_cycle : ℕ → Counts → Counts
+at_cycle t n = counts t n.retired n.sums
+
+-- with one instruction more, which adds q
+abbrev pub retiring : ℕ → Sums → Counts → Counts
+retiring t q n = counts t (suc n.retired) (plus n.sums q)
 
 abbrev pub climb : ℕ → ℕ → ℕ
 climb zero t = t
@@ -73,32 +84,32 @@ turn48 a = sym (ahead-ahead a 4 8)
 pub turn44 : (a : ℕ) → ahead (ahead a 4) 4 ≡ ahead a 8
 turn44 a = ahead-ahead a 4 4
 
--- the end of an instruction's own steps, and the refills after it
-pub land : (g : List ℕ) (f : ℕ) (e : Option ℕ) (w a k t u : ℕ) (mem : Memory) → 2 + own_steps (read_of w) g ≡ u
-    → Flight k u (refills e)
-    (at g f (pipe_after (ends e) (in_flight a mem (Some w))) (phase_after (ends e)) idle (counts_after (ends e) (counts t k)) mem)
-    (boundary (plain_at (state g f (next_address a e) mem)) (suc k) (climb (refills e) (suc t)))
+-- the end of an instruction's own steps, and the refills after it; it adds q
+pub land : (g : List ℕ) (f : ℕ) (e : Option ℕ) (w a : ℕ) (n : Counts) (t u : ℕ) (q : Sums) (mem : Memory) → 2 + own_steps (read_of w) g ≡ u → sums_of (read_of w) 0 ≡ q
+    → Flight n u (refills e)
+    (at g f (pipe_after (ends e) (in_flight a mem (Some w))) (phase_after (ends e)) idle (counts_after (ends e) (Some w) (at_cycle t n)) mem)
+    (boundary (plain_at (state g f (next_address a e) mem)) (retiring (climb (refills e) (suc t)) q n))
 unfolding cycle own_of boundary lead
-land g f None w a k t u mem s = rw (turn48 a, sym (turn44 a))
-land g f (Some x) w a k t u mem s = (
-  record { off = refl; retired = refl; beyond = s },
-  (record { off = refl; retired = refl; beyond = ap suc s }, rw (turn44 (counter x))),
+land g f None w a n t u q mem s x = rw (x, turn48 a, sym (turn44 a))
+land g f (Some v) w a n t u q mem s x = (
+  record { off = refl; retired = refl; sums = refl; beyond = s },
+  (record { off = refl; retired = refl; sums = refl; beyond = ap suc s }, rw (x, turn44 (counter v))),
 )
 
 -- a memory changed from mem to new, and not in the two words fetched ahead of a
 abbrev pub Keeps : ℕ → Memory → Memory → Type 0
 Keeps a mem new = (word_at mem (ahead a 4) ≡ word_at new (ahead a 4)) × (word_at mem (ahead a 8) ≡ word_at new (ahead a 8))
 
--- the end of a store
-pub land-stored : (g : List ℕ) (f w a k t : ℕ) (mem new : Memory) → Keeps a mem new
-    → at g f (pipe_after (Done Executed) (in_flight a mem (Some w))) Step1 idle (counts t (suc k)) new ≡ boundary (plain_at (state g f (ahead a 4) new)) (suc k) t
+-- the end of an instruction after which the counter goes on, with these counts
+pub land-stored : (g : List ℕ) (f w a : ℕ) (n : Counts) (mem new : Memory) → Keeps a mem new
+    → at g f (pipe_after (Done (Executed 0)) (in_flight a mem (Some w))) Step1 idle n new ≡ boundary (plain_at (state g f (ahead a 4) new)) n
 unfolding boundary
-land-stored g f w a k t mem new h = rw (h.0, h.1, turn48 a, sym (turn44 a))
+land-stored g f w a n mem new h = rw (h.0, h.1, turn48 a, sym (turn44 a))
 
 -- the same, where the board is known to be the old one
-pub land-on : (g : List ℕ) (f w a k t : ℕ) (mem new : Memory) → new.board ≡ mem.board → Keeps a mem new
-    → on_board g f (pipe_after (Done Executed) (in_flight a mem (Some w))) Step1 idle (counts t (suc k)) mem.board new.bytes
-    ≡ boundary (plain_at (state g f (ahead a 4) new)) (suc k) t
-land-on g f w a k t mem new b h =
-    ap (λ (x : Board). on_board g f (pipe_after (Done Executed) (in_flight a mem (Some w))) Step1 idle (counts t (suc k)) x new.bytes) (sym b)
-    ∙ land-stored g f w a k t mem new h
+pub land-on : (g : List ℕ) (f w a : ℕ) (n : Counts) (mem new : Memory) → new.board ≡ mem.board → Keeps a mem new
+    → on_board g f (pipe_after (Done (Executed 0)) (in_flight a mem (Some w))) Step1 idle n mem.board new.bytes
+    ≡ boundary (plain_at (state g f (ahead a 4) new)) n
+land-on g f w a n mem new b h =
+    ap (λ (x : Board). on_board g f (pipe_after (Done (Executed 0)) (in_flight a mem (Some w))) Step1 idle n x new.bytes) (sym b)
+    ∙ land-stored g f w a n mem new h

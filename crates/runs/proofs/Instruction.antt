@@ -4,12 +4,11 @@ use Rattle.std.specs.Prelude.{Option, ℕ, Some, None}
 use Prim.Native.Nat.{ℕ, zero, suc, ◌+◌, ◌-◌, ◌*◌, ◌^◌, ◌≤◌, ◌<◌}
 use mathlib.Core.Path.{◌≡◌, refl, sym, ap, ◌∙◌}
 use mathlib.Core.List.{List, [], ◌∷◌}
-use mathlib.Core.Bool.{Bool, true, false, not, ◌||◌}
+use mathlib.Core.Bool.{Bool, true, false}
 use mathlib.Core.Logic.{◌≢◌}
 use native.Mathlib.Omega.{arith}
 use lib.ListN.{length, get_or, drop}
-use lib.Dec.{eqb}
-use borrow.Author.Tests.{leb-false, not-false, lt-ltb, le-ltb}
+use borrow.Author.Tests.{leb-false, lt-ltb, le-ltb}
 use Rattle.bits.specs.Choice.{pick}
 use Rattle.bits.specs.Bits.{field}
 use Rattle.word.specs.declared.Processing.{Processing}
@@ -18,7 +17,7 @@ use Rattle.word.specs.declared.Block.{Block}
 use Rattle.word.specs.declared.Branch.{Branch}
 use Rattle.word.specs.declared.Multiply.{Multiply}
 use Rattle.word.specs.declared.Instruction.{Instruction}
-use Rattle.word.specs.Reader.{read_of, is_other}
+use Rattle.word.specs.Reader.{read_of}
 use Rattle.condition.specs.Condition.{passes}
 use Rattle.datapath.specs.Counter.{ahead, counters}
 use Rattle.memory.specs.declared.Board.{Board}
@@ -35,26 +34,28 @@ use Rattle.transfer.proofs.Lengths.{stored-to-alike}
 use Rattle.semantics.specs.Branch.{branched}
 use Rattle.semantics.specs.Effect.{Effect, effect, effect_of, load_effect, store_effect, block_load_effect, block_store_effect}
 use Rattle.semantics.specs.Duration.{own_steps, refills, next_address}
-use Rattle.stops.specs.Rules.{first_broken, is15, rule_broken}
-use Rattle.stops.specs.Moves.{moves_from, moves_of, addresses, moved_by, stored_by, span}
-use Rattle.stops.specs.Stops.{Due, no_word_there, skipped, executes, due, outside, hits, moved_stop, stop_of, stop_for}
+use Rattle.stops.specs.Moves.{moves_from, moves_of, addresses, stored_by, span}
+use Rattle.stops.specs.Stops.{Due, no_word_there, skipped, executes, due, outside, hits, stop_for}
+use Rattle.stops.proofs.Quiet.{Quiet, quietly, names-some}
 use Rattle.stops.proofs.StopOrder.{from-span}
 use Rattle.stops.proofs.Spans.{last_decides}
 use Rattle.datapath.proofs.Counters.{behind-ahead}
 use Rattle.steps.specs.declared.Phase.TheVariants.{Step1, Later}
 use Rattle.steps.specs.declared.Latches.{Latches}
 use Rattle.plain.specs.Numbers.{most_bytes}
-use Rattle.cycle.specs.Machine.{Machine, pipe, counts}
+use Rattle.semantics.specs.declared.Sums.{Sums}
+use Rattle.semantics.specs.Sums.{no_sums, skipped_sums, sums_of, m_in}
+use Rattle.cycle.specs.declared.Counts.{Counts}
+use Rattle.cycle.specs.Machine.{Machine, pipe}
 use Rattle.steps.specs.Steps.{latches, own, on, idle, first_step, later_step, load_later, store_later, load_step, block_load_later, store_step, block_store_later, multiply_later, next_to_move}
 use Rattle.cycle.specs.Cycle.{cycle, own_of}
 use Rattle.runs.specs.Boundary.{boundary, lead}
-use Rattle.steps.proofs.Both.{or-false}
 use Rattle.runs.proofs.FetchedAhead.{single-kept, stores-all-kept}
-use Rattle.runs.proofs.Flight.{Flight, climb, more, in_flight, at, plain_at, turn12, land, Keeps, land-stored, land-on}
+use Rattle.runs.proofs.Flight.{Flight, climb, more, in_flight, at, at_cycle, retiring, plain_at, turn12, land, Keeps, land-stored, land-on}
 
 -- a core about to do step 1 of x at a
-abbrev pub begin : Option ℕ → State → ℕ → ℕ → Machine
-begin x s k t = at s.registers s.status (pipe (ahead s.a 8) (word_at s.memory (ahead s.a 4)) x x) Step1 idle (counts t k) s.memory
+abbrev pub begin : Option ℕ → State → Counts → Machine
+begin x s n = at s.registers s.status (pipe (ahead s.a 8) (word_at s.memory (ahead s.a 4)) x x) Step1 idle n s.memory
 
 -- the steps after the first, by the registers before it
 abbrev pub extra : Instruction → List ℕ → ℕ
@@ -90,16 +91,16 @@ own-steps (Instruction.Other w) g = refl
 abbrev pub leaves : State → Effect → State
 leaves s e = state e.out.registers e.out.flags (next_address s.a e.out.goes) e.memory
 
--- a flight after step 1 of x: j more steps, to what e leaves
-abbrev pub FliesTo : Option ℕ → State → ℕ → ℕ → ℕ → Effect → Type 0
-FliesTo x s k t j e =
-    Flight k 3 (more j (refills e.out.goes)) (cycle (begin x s k t))
-    (boundary (plain_at (leaves s e)) (suc k) (climb (more j (refills e.out.goes)) (suc t)))
+-- a flight after step 1 of x: j more steps, to what e leaves and q adds
+abbrev pub FliesTo : Option ℕ → State → Counts → ℕ → Effect → Sums → Type 0
+FliesTo x s n j e q =
+    Flight n 3 (more j (refills e.out.goes)) (cycle (begin x s n))
+    (boundary (plain_at (leaves s e)) (retiring (climb (more j (refills e.out.goes)) (suc n.cycles)) q n))
 
-skips-on : (w : ℕ) (s : State) (k t : ℕ) → passes (field w 28 4) s.status ≡ false
-    → cycle (begin (Some w) s k t) ≡ boundary (plain_at (state s.registers s.status (ahead s.a 4) s.memory)) (suc k) (suc t)
+skips-on : (w : ℕ) (s : State) (n : Counts) → passes (field w 28 4) s.status ≡ false
+    → cycle (begin (Some w) s n) ≡ boundary (plain_at (state s.registers s.status (ahead s.a 4) s.memory)) (retiring (suc n.cycles) skipped_sums n)
 unfolding cycle own_of due
-skips-on w s k t p = rw (p, turn12 s.a) (land s.registers s.status None w s.a k t _ s.memory refl)
+skips-on w s n p = rw (p, turn12 s.a) (land-stored s.registers s.status w s.a (retiring (suc n.cycles) skipped_sums n) s.memory s.memory (refl, refl))
 
 pub drop-next : (l : List ℕ) (i : ℕ) {x : ℕ} {xs : List ℕ} → drop i l ≡ x ∷ xs → drop (suc i) l ≡ xs
 drop-next [] zero d = cc
@@ -189,7 +190,7 @@ module _ (i : Block) (s : State) where
   unfolding effect_of
   block-store-effect l = ap (λ b. pick b (block_load_effect i s) (block_store_effect i s)) l
 
-module _ (w : ℕ) (s : State) (k t : ℕ) (ps : passes (field w 28 4) s.status ≡ true) where
+module _ (w : ℕ) (s : State) (n : Counts) (ps : passes (field w 28 4) s.status ≡ true) where
   abbrev g : List ℕ
   g = s.registers
 
@@ -204,7 +205,11 @@ module _ (w : ℕ) (s : State) (k t : ℕ) (ps : passes (field w 28 4) s.status 
 
   -- the flight after step 1 of an instruction
   abbrev Flies : Instruction → Type 0
-  Flies i = FliesTo (Some w) s k t (extra i g) (effect_of i s)
+  Flies i = FliesTo (Some w) s n (extra i g) (effect_of i s) (sums_of i (m_in i g))
+
+  -- what it adds where it is no multiply
+  adding : {i : Instruction} → read_of w ≡ i → sums_of (read_of w) 0 ≡ sums_of i 0
+  adding e = ap (λ (x : Instruction). sums_of x 0) e
 
   -- the steps that the word has, in any registers
   steps : {i : Instruction} (h : List ℕ) → read_of w ≡ i → 2 + own_steps (read_of w) h ≡ 3 + extra i h
@@ -214,37 +219,37 @@ module _ (w : ℕ) (s : State) (k t : ℕ) (ps : passes (field w 28 4) s.status 
   unfolding cycle own_of due first_step effect_of
   simple i e b =
       let o = processed i g f (ahead a 8) in
-      let n = rw b at (steps o.registers e) in
-      rw (ps, e, b, turn12 a) (land o.registers o.flags o.goes w a k t 3 mem n)
+      let z = rw b at (steps o.registers e) in
+      rw (ps, e, b, turn12 a) (land o.registers o.flags o.goes w a n n.cycles 3 (sums_of (Instruction.Processing i) 0) mem z (adding e))
 
   shifted : (i : Processing) → read_of w ≡ Instruction.Processing i → by_register? i.operand ≡ true → Flies (Instruction.Processing i)
   unfolding cycle own_of due first_step later_step effect_of lead
   shifted i e b =
       let o = processed i g f (ahead a 12) in
-      let n = rw b at (steps o.registers e) in
+      let z = rw b at (steps o.registers e) in
       rw (ps, e, b, turn12 a) (
-        record { off = refl; retired = refl; beyond = refl },
-        rw e (land o.registers o.flags o.goes w a k (suc t) 4 mem n),
+        record { off = refl; retired = refl; sums = refl; beyond = refl },
+        rw e (land o.registers o.flags o.goes w a n (suc n.cycles) 4 (sums_of (Instruction.Processing i) 0) mem z (adding e)),
       )
 
   branch : (i : Branch) → read_of w ≡ Instruction.Branch i → a < counters → Flies (Instruction.Branch i)
   unfolding cycle own_of due first_step effect_of
   branch i e r =
       let o = branched i g f a in
-      rw (ps, e, behind-ahead a r, turn12 a) (land o.registers o.flags o.goes w a k t 3 mem (steps o.registers e))
+      rw (ps, e, behind-ahead a r, turn12 a) (land o.registers o.flags o.goes w a n n.cycles 3 (sums_of (Instruction.Branch i) 0) mem (steps o.registers e) (adding e))
 
   -- a multiply under way, v cycles after the last boundary's durations: j steps are done after the first, and j' are to follow
   multiplying : (i : Multiply) → read_of w ≡ Instruction.Multiply i → (j' j u v : ℕ) → m_of (rs_of i g) ≡ suc (j + j') → v ≡ 3 + j
-      → Flight k v (more (suc j') 0)
-      (at g f (in_flight a mem (Some w)) (Later j) idle (counts u k) mem)
-      (boundary (plain_at (leaves s (effect (multiplied i g f) mem))) (suc k) (climb (more (suc j') 0) u))
+      → Flight n v (more (suc j') 0)
+      (at g f (in_flight a mem (Some w)) (Later j) idle (at_cycle u n) mem)
+      (boundary (plain_at (leaves s (effect (multiplied i g f) mem))) (retiring (climb (more (suc j') 0) u) (sums_of (Instruction.Multiply i) (m_of (rs_of i g))) n))
   unfolding cycle own_of due later_step multiply_later multiplied lead
   multiplying i e zero j u v m c = (
-    record { off = refl; retired = refl; beyond = omega arith },
-    rw (e, le-ltb (suc j) (m_of (rs_of i g)) (omega arith)) (land-stored _ _ w a k (suc u) mem mem (refl, refl)),
+    record { off = refl; retired = refl; sums = refl; beyond = omega arith },
+    rw (e, le-ltb (suc j) (m_of (rs_of i g)) (omega arith), e) (land-stored _ _ w a (retiring (suc u) (sums_of (Instruction.Multiply i) (m_of (rs_of i g))) n) mem mem (refl, refl)),
   )
   multiplying i e (suc j') j u v m c = (
-    record { off = refl; retired = refl; beyond = omega arith },
+    record { off = refl; retired = refl; sums = refl; beyond = omega arith },
     rw (e, lt-ltb (suc j) (m_of (rs_of i g)) (omega arith)) (multiplying i e j' (suc j) (suc u) (suc v) (omega arith) (omega arith)),
   )
 
@@ -252,130 +257,97 @@ module _ (w : ℕ) (s : State) (k t : ℕ) (ps : passes (field w 28 4) s.status 
   unfolding cycle own_of due first_step effect_of multiplied
   multiply i e = go (m_of (rs_of i g)) refl
     where
-      go : (m : ℕ) → m_of (rs_of i g) ≡ m → FliesTo (Some w) s k t m (effect_of (Instruction.Multiply i) s)
+      go : (m : ℕ) → m_of (rs_of i g) ≡ m → FliesTo (Some w) s n m (effect_of (Instruction.Multiply i) s) (sums_of (Instruction.Multiply i) (m_of (rs_of i g)))
       go zero z = absurd (omega (arith, m-bounds (rs_of i g)))
-      go (suc j) z = rw (ps, e, turn12 a) (multiplying i e j 0 (suc t) 3 (z ∙ omega arith) refl)
+      go (suc j) z = rw (ps, e, turn12 a) (multiplying i e j 0 (suc n.cycles) 3 (z ∙ omega arith) refl)
 
-  load : (i : Single) → read_of w ≡ Instruction.Single i → i.l ≡ true → FliesTo (Some w) s k t 2 (load_effect i s)
+  load : (i : Single) → read_of w ≡ Instruction.Single i → i.l ≡ true → FliesTo (Some w) s n 2 (load_effect i s) (sums_of (Instruction.Single i) 0)
   unfolding cycle own_of due load_later load_effect lead
   load i e l =
       let o = arrives (single.with_base i g (single.changed_base i g f (ahead a 8))) f i.rd (single.loaded_value i mem (single.address_of i g f (ahead a 8))) in
-      let n : 2 + own_steps (read_of w) o.registers ≡ 5 = steps o.registers e ∙ ap (λ b. 3 + pick b 2 1) l in
+      let z : 2 + own_steps (read_of w) o.registers ≡ 5 = steps o.registers e ∙ ap (λ b. 3 + pick b 2 1) l in
       rw (ps, e, load-first i g f (ahead a 8) mem l, turn12 a) (
-        record { off = refl; retired = refl; beyond = refl },
+        record { off = refl; retired = refl; sums = refl; beyond = refl },
         rw (e, load-later i g f 0 (ahead a 12) _ _ l, single-base) (
-          record { off = refl; retired = refl; beyond = refl },
-          rw (e, load-later i _ f 1 (ahead a 12) _ _ l) (land o.registers o.flags o.goes w a k (suc (suc t)) 5 mem n),
+          record { off = refl; retired = refl; sums = refl; beyond = refl },
+          rw (e, load-later i _ f 1 (ahead a 12) _ _ l) (land o.registers o.flags o.goes w a n (suc (suc n.cycles)) 5 (sums_of (Instruction.Single i) 0) mem z (adding e)),
         ),
       )
 
   store : (i : Single) → read_of w ≡ Instruction.Single i → i.l ≡ false → Keeps a mem (store_effect i s).memory
-      → FliesTo (Some w) s k t 1 (store_effect i s)
+      → FliesTo (Some w) s n 1 (store_effect i s) (sums_of (Instruction.Single i) 0)
   unfolding cycle own_of due store_later store_effect lead
   store i e l h =
       rw (ps, e, store-first i g f (ahead a 8) mem l, turn12 a) (
-        record { off = refl; retired = refl; beyond = refl },
-        rw (e, store-later i g f 0 (ahead a 12) _ _ l, single-base) (land-on _ f w a k (suc (suc t)) mem _ (stored-to-alike i mem _ _).board h),
+        record { off = refl; retired = refl; sums = refl; beyond = refl },
+        rw (e, store-later i g f 0 (ahead a 12) _ _ l, single-base, e) (land-on _ f w a (retiring (suc (suc n.cycles)) (sums_of (Instruction.Single i) 0) n) mem _ (stored-to-alike i mem _ _).board h),
       )
 
   -- a block load under way, v cycles after the last boundary's durations: x takes the word at b, and xs are to follow
   loading : (i : Block) → read_of w ≡ Instruction.Block i → i.l ≡ true → (xs : List ℕ) (x j : ℕ) (h : List ℕ) (b u v : ℕ)
       → drop j (block.named i.list) ≡ x ∷ xs → v ≡ 4 + j
-      → Flight k v (more (length (x ∷ xs)) (refills (block.loads (x ∷ xs) h f b mem).goes))
-      (at h f (in_flight a mem (Some w)) (Later (suc j)) (latches (next_to_move xs b) (read_word mem b) 0) (counts u k) mem)
+      → Flight n v (more (length (x ∷ xs)) (refills (block.loads (x ∷ xs) h f b mem).goes))
+      (at h f (in_flight a mem (Some w)) (Later (suc j)) (latches (next_to_move xs b) (read_word mem b) 0) (at_cycle u n) mem)
       (boundary (plain_at (leaves s (effect (block.loads (x ∷ xs) h f b mem) mem)))
-      (suc k) (climb (more (length (x ∷ xs)) (refills (block.loads (x ∷ xs) h f b mem).goes)) u))
+      (retiring (climb (more (length (x ∷ xs)) (refills (block.loads (x ∷ xs) h f b mem).goes)) u) (sums_of (Instruction.Block i) 0) n))
   unfolding cycle own_of due block_load_later load_step block.loads lead
   loading i e l [] x j h b u v d c =
       let o = arrives h f x (read_word mem b) in
-      let n : 2 + own_steps (read_of w) o.registers ≡ suc v =
+      let z : 2 + own_steps (read_of w) o.registers ≡ suc v =
       steps o.registers e ∙ ap (λ c. 3 + pick c (suc (block.count i)) (block.count i)) l ∙ omega (arith, drop-count (block.named i.list) j x [] d) in (
-        record { off = refl; retired = refl; beyond = omega arith },
-        rw (e, block-load-later i h f (suc j) (ahead a 12) _ _ l, d) (land o.registers o.flags o.goes w a k u (suc v) mem n),
+        record { off = refl; retired = refl; sums = refl; beyond = omega arith },
+        rw (e, block-load-later i h f (suc j) (ahead a 12) _ _ l, d) (land o.registers o.flags o.goes w a n u (suc v) (sums_of (Instruction.Block i) 0) mem z (adding e)),
       )
   loading i e l (y ∷ ys) x j h b u v d c = (
-    record { off = refl; retired = refl; beyond = omega arith },
+    record { off = refl; retired = refl; sums = refl; beyond = omega arith },
     rw (e, block-load-later i h f (suc j) (ahead a 12) _ _ l, d)
         (loading i e l ys y (suc j) (put h x (read_word mem b)) (block.next b) (suc u) (suc v) (drop-next (block.named i.list) j d) (omega arith)),
   )
 
   block_load : (i : Block) (x : ℕ) (xs : List ℕ) → read_of w ≡ Instruction.Block i → i.l ≡ true → block.named i.list ≡ x ∷ xs
-      → FliesTo (Some w) s k t (suc (block.count i)) (block_load_effect i s)
+      → FliesTo (Some w) s n (suc (block.count i)) (block_load_effect i s) (sums_of (Instruction.Block i) 0)
   unfolding cycle own_of due block_load_later block_load_effect lead
   block_load i x xs e l d =
       rw (ps, e, block-load-first i g f (ahead a 8) mem l, turn12 a) (
-        record { off = refl; retired = refl; beyond = refl },
+        record { off = refl; retired = refl; sums = refl; beyond = refl },
         rw (e, block-load-later i g f 0 (ahead a 12) _ _ l, d, block-base)
-            (loading i e l xs x 0 (block.with_base i g (block.changed_base i g)) (block.lowest_address i g) (suc (suc t)) 4 d refl),
+            (loading i e l xs x 0 (block.with_base i g (block.changed_base i g)) (block.lowest_address i g) (suc (suc n.cycles)) 4 d refl),
       )
 
   -- a block store under way: x is stored at b, and xs are to follow
   storing : (i : Block) → read_of w ≡ Instruction.Block i → i.l ≡ false → (xs : List ℕ) (x j : ℕ) (h : List ℕ) (b u v : ℕ) (new : Memory)
       → drop (suc j) (block.named i.list) ≡ x ∷ xs → v ≡ 4 + j → Keeps a mem (block.stores (x ∷ xs) h f (ahead a 12) b new)
-      → Flight k v (more (length (x ∷ xs)) 0)
-      (at h f (in_flight a mem (Some w)) (Later (suc j)) (latches b (single.stored_value h x f (ahead a 12)) 0) (counts u k) new)
-      (boundary (plain_at (state h f (ahead a 4) (block.stores (x ∷ xs) h f (ahead a 12) b new))) (suc k) (climb (more (length (x ∷ xs)) 0) u))
+      → Flight n v (more (length (x ∷ xs)) 0)
+      (at h f (in_flight a mem (Some w)) (Later (suc j)) (latches b (single.stored_value h x f (ahead a 12)) 0) (at_cycle u n) new)
+      (boundary (plain_at (state h f (ahead a 4) (block.stores (x ∷ xs) h f (ahead a 12) b new))) (retiring (climb (more (length (x ∷ xs)) 0) u) (sums_of (Instruction.Block i) 0) n))
   unfolding cycle own_of due block_store_later store_step block.stores lead
   storing i e l [] x j h b u v new d c ks = (
-    record { off = refl; retired = refl; beyond = omega arith },
-    rw (e, block-store-later i h f (suc j) (ahead a 12) _ _ l, d) (land-stored h f w a k (suc u) mem _ ks),
+    record { off = refl; retired = refl; sums = refl; beyond = omega arith },
+    rw (e, block-store-later i h f (suc j) (ahead a 12) _ _ l, d, e) (land-stored h f w a (retiring (suc u) (sums_of (Instruction.Block i) 0) n) mem _ ks),
   )
   storing i e l (y ∷ ys) x j h b u v new d c ks = (
-    record { off = refl; retired = refl; beyond = omega arith },
+    record { off = refl; retired = refl; sums = refl; beyond = omega arith },
     rw (e, block-store-later i h f (suc j) (ahead a 12) _ _ l, d)
         (storing i e l ys y (suc j) h (block.next b) (suc u) (suc v) (write_word new b (single.stored_value h x f (ahead a 12))) (drop-next (block.named i.list) (suc j) d) (omega arith) ks),
   )
 
   block_store : (i : Block) (x : ℕ) (xs : List ℕ) → read_of w ≡ Instruction.Block i → i.l ≡ false → block.named i.list ≡ x ∷ xs
       → Keeps a mem (block_store_effect i s).memory
-      → FliesTo (Some w) s k t (block.count i) (block_store_effect i s)
+      → FliesTo (Some w) s n (block.count i) (block_store_effect i s) (sums_of (Instruction.Block i) 0)
   unfolding cycle own_of due block_store_later store_step block_store_effect block.stores_all block.stores lead
   block_store i x [] e l d ks =
       rw (ps, e, block-store-first i g f (ahead a 8) mem l, turn12 a, d) (
-        record { off = refl; retired = refl; beyond = refl },
-        rw (e, block-store-later i g f 0 (ahead a 12) _ _ l, d, block-base) (land-stored _ f w a k (suc (suc t)) mem _ (rw d at ks)),
+        record { off = refl; retired = refl; sums = refl; beyond = refl },
+        rw (e, block-store-later i g f 0 (ahead a 12) _ _ l, d, block-base, e) (land-stored _ f w a (retiring (suc (suc n.cycles)) (sums_of (Instruction.Block i) 0) n) mem _ (rw d at ks)),
       )
   block_store i x (y ∷ ys) e l d ks =
       rw (ps, e, block-store-first i g f (ahead a 8) mem l, turn12 a, d) (
-        record { off = refl; retired = refl; beyond = refl },
+        record { off = refl; retired = refl; sums = refl; beyond = refl },
         rw (e, block-store-later i g f 0 (ahead a 12) _ _ l, d, block-base)
-            (storing i e l ys y 0 (block.with_base i g (block.changed_base i g)) (block.next (block.lowest_address i g)) (suc (suc t)) 4 _ (drop-next (block.named i.list) 0 d) refl (rw d at ks)),
+            (storing i e l ys y 0 (block.with_base i g (block.changed_base i g)) (block.next (block.lowest_address i g)) (suc (suc n.cycles)) 4 _ (drop-next (block.named i.list) 0 d) refl (rw d at ks)),
       )
 
--- ---- what an instruction that meets no stop knows
-
-quiet : (b : Bool) (q : ℕ) {m : ℕ} → pick b (suc q) m ≡ 0 → (b ≡ false) × (m ≡ 0)
-quiet true q e = absurd (omega arith)
-quiet false q e = (refl, e)
-
-pub record Quiet (i : Instruction) (s : State) : Type 0 where
-  pub known : is_other i ≡ false
-  pub allowed : eqb (rule_broken i s) 0 ≡ true
-  pub inside : outside (moved_by i s) s.memory.board ≡ false
-  pub clear4 : hits (stored_by i s) (ahead s.a 4) s.memory.board ≡ false
-  pub clear8 : hits (stored_by i s) (ahead s.a 8) s.memory.board ≡ false
-
-pub quietly : (i : Instruction) (s : State) → stop_of i s ≡ 0 → Quiet i s
-unfolding stop_of moved_stop
-quietly i s e =
-    let p = quiet (is_other i) 21 e in
-    let q = quiet (not (eqb (rule_broken i s) 0)) 22 p.1 in
-    let r = quiet (outside (moved_by i s) s.memory.board) 23 q.1 in
-    let u = quiet (hits (stored_by i s) (ahead s.a 4) s.memory.board || hits (stored_by i s) (ahead s.a 8) s.memory.board) 24 r.1 in
-    let v = or-false (hits (stored_by i s) (ahead s.a 4) s.memory.board) u.0 in
-    record { known = p.0; allowed = not-false (eqb (rule_broken i s) 0) q.0; inside = r.0; clear4 = v.0; clear8 = v.1 }
-
--- a block that breaks no rule names a register
-pub names-some : (i : Block) (s : State) → eqb (rule_broken (Instruction.Block i) s) 0 ≡ true → (x : ℕ) × (xs : List ℕ) × (block.named i.list ≡ x ∷ xs)
-unfolding rule_broken
-names-some i s e = go (block.named i.list) refl (is15 i.rn) i.s e
-  where
-    go : (l : List ℕ) → block.named i.list ≡ l → (p q : Bool)
-        → eqb (first_broken 6 (p ∷ (q ∷ (eqb (length (block.named i.list)) 0 ∷ [])))) 0 ≡ true → (x : ℕ) × (xs : List ℕ) × (block.named i.list ≡ x ∷ xs)
-    go [] d true q e = (0, [], cc)
-    go [] d false true e = (0, [], cc)
-    go [] d false false e = (0, [], let z : false ≡ true = rw d at e in cc)
-    go (x ∷ xs) d p q e = (x, xs, d)
+-- ---- what the stores of an instruction that meets no stop leave
 
 -- its addresses do not wrap
 pub no_wrap : (m b : ℕ) (board : Board) → outside (span m b) board ≡ false → m ≢ 0 → board.size ≤ most_bytes → b + 4 * m ≤ 2 ^ 32
@@ -406,28 +378,28 @@ module _ (s : State) (short : s.memory.board.size ≤ most_bytes) where
 
 -- ---- the instruction lemma
 
-module _ (w : ℕ) (s : State) (k t : ℕ) (range : s.a < counters) (short : s.memory.board.size ≤ most_bytes) (ps : passes (field w 28 4) s.status ≡ true) where
-  done : (i : Instruction) → read_of w ≡ i → Quiet i s → FliesTo (Some w) s k t (extra i s.registers) (effect_of i s)
+module _ (w : ℕ) (s : State) (n : Counts) (range : s.a < counters) (short : s.memory.board.size ≤ most_bytes) (ps : passes (field w 28 4) s.status ≡ true) where
+  done : (i : Instruction) → read_of w ≡ i → Quiet i s → FliesTo (Some w) s n (extra i s.registers) (effect_of i s) (sums_of i (m_in i s.registers))
   done (Instruction.Processing i) e q = go (by_register? i.operand) refl
     where
-      go : (b : Bool) → by_register? i.operand ≡ b → FliesTo (Some w) s k t (extra (Instruction.Processing i) s.registers) (effect_of (Instruction.Processing i) s)
-      go true b = shifted w s k t ps i e b
-      go false b = simple w s k t ps i e b
+      go : (b : Bool) → by_register? i.operand ≡ b → FliesTo (Some w) s n (extra (Instruction.Processing i) s.registers) (effect_of (Instruction.Processing i) s) (sums_of (Instruction.Processing i) 0)
+      go true b = shifted w s n ps i e b
+      go false b = simple w s n ps i e b
   done (Instruction.Single i) e q = go i.l refl
     where
-      go : (b : Bool) → i.l ≡ b → FliesTo (Some w) s k t (pick b 2 1) (effect_of (Instruction.Single i) s)
-      go true l = rw (load-effect i s l) (load w s k t ps i e l)
-      go false l = rw (store-effect i s l) (store w s k t ps i e l (single-keeps s short i l q))
+      go : (b : Bool) → i.l ≡ b → FliesTo (Some w) s n (pick b 2 1) (effect_of (Instruction.Single i) s) (sums_of (Instruction.Single i) 0)
+      go true l = rw (load-effect i s l) (load w s n ps i e l)
+      go false l = rw (store-effect i s l) (store w s n ps i e l (single-keeps s short i l q))
   done (Instruction.Block i) e q = go i.l refl (names-some i s q.allowed)
     where
       go : (b : Bool) → i.l ≡ b → (x : ℕ) × (xs : List ℕ) × (block.named i.list ≡ x ∷ xs)
-          → FliesTo (Some w) s k t (pick b (suc (block.count i)) (block.count i)) (effect_of (Instruction.Block i) s)
-      go true l d = rw (block-load-effect i s l) (block_load w s k t ps i d.0 d.1 e l d.2)
+          → FliesTo (Some w) s n (pick b (suc (block.count i)) (block.count i)) (effect_of (Instruction.Block i) s) (sums_of (Instruction.Block i) 0)
+      go true l d = rw (block-load-effect i s l) (block_load w s n ps i d.0 d.1 e l d.2)
       go false l d =
           let z : block.count i ≢ 0 = λ c. let y = ap length (sym d.2) ∙ c in omega arith in
-          rw (block-store-effect i s l) (block_store w s k t ps i d.0 d.1 e l d.2 (block-keeps s short i l z q))
-  done (Instruction.Branch i) e q = branch w s k t ps i e range
-  done (Instruction.Multiply i) e q = multiply w s k t ps i e
+          rw (block-store-effect i s l) (block_store w s n ps i d.0 d.1 e l d.2 (block-keeps s short i l z q))
+  done (Instruction.Branch i) e q = branch w s n ps i e range
+  done (Instruction.Multiply i) e q = multiply w s n ps i e
   done (Instruction.Other v) e q = absurd (let z : ◌≡◌ {A = ℕ} 0 1 = cc q.known in omega arith)
 
 -- the steps after the first of what is due, and its effect
@@ -441,13 +413,19 @@ effect_due no_word_there s = effect (out s.registers s.status None) s.memory
 effect_due skipped s = effect (out s.registers s.status None) s.memory
 effect_due (executes i) s = effect_of i s
 
-pub flies : (x : Option ℕ) (s : State) (k t : ℕ) → s.a < counters → s.memory.board.size ≤ most_bytes → stop_for x s ≡ 0
-    → FliesTo x s k t (extra_due (due x s.status) s) (effect_due (due x s.status) s)
+-- and what it adds where it is done
+abbrev pub sums_done : Due → State → Sums
+sums_done no_word_there s = no_sums
+sums_done skipped s = skipped_sums
+sums_done (executes i) s = sums_of i (m_in i s.registers)
+
+pub flies : (x : Option ℕ) (s : State) (n : Counts) → s.a < counters → s.memory.board.size ≤ most_bytes → stop_for x s ≡ 0
+    → FliesTo x s n (extra_due (due x s.status) s) (effect_due (due x s.status) s) (sums_done (due x s.status) s)
 unfolding stop_for due
-flies None s k t r h e = absurd (omega arith)
-flies (Some w) s k t r h e = go (passes (field w 28 4) s.status) refl
+flies None s n r h e = absurd (omega arith)
+flies (Some w) s n r h e = go (passes (field w 28 4) s.status) refl
   where
     go : (b : Bool) → passes (field w 28 4) s.status ≡ b
-        → FliesTo (Some w) s k t (extra_due (due (Some w) s.status) s) (effect_due (due (Some w) s.status) s)
-    go true p = rw p (done w s k t r h p (read_of w) refl (quietly (read_of w) s (rw p at e)))
-    go false p = rw p (skips-on w s k t p)
+        → FliesTo (Some w) s n (extra_due (due (Some w) s.status) s) (effect_due (due (Some w) s.status) s) (sums_done (due (Some w) s.status) s)
+    go true p = rw p (done w s n r h p (read_of w) refl (quietly (read_of w) s (rw p at e)))
+    go false p = rw p (skips-on w s n p)

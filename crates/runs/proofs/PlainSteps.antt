@@ -26,13 +26,15 @@ use Rattle.semantics.specs.Perform.{executed, performed_due, performs}
 use Rattle.semantics.proofs.Durations.{refills-short, steps-short}
 use Rattle.semantics.proofs.Stopped.{stopped-unchanged}
 use Rattle.plain.specs.Machine as plain
-use Rattle.plain.specs.Trace.{stop_met, duration}
+use Rattle.semantics.specs.Sums.{executed_sums, sums_due, performs_sums}
+use Rattle.plain.specs.Trace.{stop_met, duration, adds}
 use Rattle.plain.specs.Numbers.{most_bytes}
 use Rattle.cycle.specs.StopFound.{stop_found}
 use Rattle.cycle.specs.Cycle.{cycle}
 use Rattle.runs.specs.Boundary.{boundary}
-use Rattle.runs.proofs.Flight.{Flight, climb, more, plain_at}
-use Rattle.runs.proofs.Instruction.{own-steps, leaves, extra_due, effect_due, flies}
+use Rattle.cycle.specs.declared.Counts.{Counts}
+use Rattle.runs.proofs.Flight.{Flight, climb, more, retiring, plain_at}
+use Rattle.runs.proofs.Instruction.{own-steps, leaves, extra_due, effect_due, sums_done, flies}
 
 abbrev word_of : plain.Machine → Option ℕ
 word_of p = word_at (plain.state_of p).memory p.plain.a
@@ -56,6 +58,12 @@ module _ (s : State) where
   due-step skipped e = refl
   due-step (executes i) e = rw e
 
+  due-sums : (d : Due) → stop_due d s ≡ 0 → sums_done d s ≡ sums_due d s
+  unfolding executed_sums
+  due-sums no_word_there e = absurd (omega arith)
+  due-sums skipped e = refl
+  due-sums (executes i) e = rw e
+
   due-duration : (d : Due) → stop_due d s ≡ 0 → (performed_due d s).performed.cycles ≡ suc (extra_due d s) + refills (effect_due d s).out.goes
   unfolding executed
   due-duration no_word_there e = absurd (omega arith)
@@ -75,6 +83,10 @@ module _ (p : plain.Machine) (e : stop_met p ≡ 0) where
   pub step_is : plain.step p ≡ plain_at (leaves (plain.state_of p) (effect_of p))
   unfolding plain.step plain.performed_at performs
   step_is = due-step (plain.state_of p) (due_at p) stops-not
+
+  adds-is : sums_done (due_at p) (plain.state_of p) ≡ adds p
+  unfolding adds performs_sums
+  adds-is = due-sums (plain.state_of p) (due_at p) stops-not
 
   duration-is : duration p ≡ suc (extra_due (due_at p) (plain.state_of p)) + refills (effect_of p).out.goes
   unfolding duration plain.performed_at performs
@@ -97,15 +109,15 @@ unfolding flight
 flight-short p = omega (arith, more-add (extra_due (due_at p) (plain.state_of p)) (refills (effect_of p).out.goes), due-short (plain.state_of p) (due_at p))
 
 -- from the boundary of a plain machine that meets no stop, its instruction's cycles come to the boundary of its step
-pub instruction : (p : plain.Machine) (k t : ℕ) → p.plain.a < counters → p.plain.board.size ≤ most_bytes → stop_met p ≡ 0
-    → Flight k 3 (flight p) (cycle (boundary p k t)) (boundary (plain.step p) (suc k) (climb (flight p) (suc t)))
+pub instruction : (p : plain.Machine) (n : Counts) → p.plain.a < counters → p.plain.board.size ≤ most_bytes → stop_met p ≡ 0
+    → Flight n 3 (flight p) (cycle (boundary p n)) (boundary (plain.step p) (retiring (climb (flight p) (suc n.cycles)) (adds p) n))
 unfolding flight
-instruction p k t r l e = rw (step_is p e) (unfold boundary in flies (word_of p) (plain.state_of p) k t r l (sym (stop_is p) ∙ e))
+instruction p n r l e = rw (step_is p e, ← adds-is p e) (unfold boundary in flies (word_of p) (plain.state_of p) n r l (sym (stop_is p) ∙ e))
 
 -- on a boundary the core finds the stop that the plain machine meets
-pub boundary-stop : (p : plain.Machine) (k t : ℕ) → p.plain.a < counters → stop_found (boundary p k t) ≡ stop_met p
+pub boundary-stop : (p : plain.Machine) (n : Counts) → p.plain.a < counters → stop_found (boundary p n) ≡ stop_met p
 unfolding stop_found boundary
-boundary-stop p k t h = rw (behind-ahead p.plain.a h) (sym (stop_is p))
+boundary-stop p n h = rw (behind-ahead p.plain.a h) (sym (stop_is p))
 
 -- ---- ranges that a step keeps
 

@@ -14,19 +14,23 @@ use Rattle.datapath.specs.Counter.{ahead, behind, counters}
 use Rattle.datapath.proofs.Counters.{behind-lt, ahead-behind}
 use Rattle.memory.specs.Memory.{memory_of, word_at}
 use Rattle.plain.specs.Machine as plain
-use Rattle.plain.specs.Trace.{stop_met, duration}
+use Rattle.plain.specs.Trace.{stop_met, duration, adds}
 use Rattle.plain.specs.Numbers.{most_bytes}
 use Rattle.plain.specs.Running.{ran, more_by}
-use Rattle.plain.specs.Whole.{Wholes, wholes_of, longest, wholes}
-use Rattle.plain.proofs.WholeSteps.{duration-short, met, within-budgets}
+use Rattle.plain.specs.Whole.{Wholes, wholes_of, none_done, longest, wholes}
+use Rattle.plain.proofs.WholeSteps.{duration-short, met, within-budgets, adds-timed, wholes-timed, plus-none, plus-plus}
 use Rattle.steps.specs.declared.Phase.{Phase}
 use Rattle.steps.specs.declared.Phase.TheVariants.{Step1, Refill1, Refill2, Later}
-use Rattle.steps.proofs.Both.{and-true}
+use Rattle.stops.proofs.Both.{and-true}
+use Rattle.semantics.specs.declared.Tally.{Tally}
+use Rattle.semantics.specs.Sums.{no_sums, total}
+use Rattle.semantics.specs.Tally.{told_by}
 use Rattle.cycle.specs.declared.Control.{Control}
+use Rattle.cycle.specs.declared.Counts.{Counts}
 use Rattle.cycle.specs.Machine.{Machine, machine, most_cycles}
 use Rattle.cycle.specs.StopFound.{is_step1}
 use Rattle.runs.specs.Run.{run_from}
-use Rattle.runs.specs.Boundary.{boundary}
+use Rattle.runs.specs.Boundary.{boundary, counts_on}
 use Rattle.runs.specs.Whole.{Stretch, stretch, longer, same, clear, sized, filled, stands, plainly, reached, skipped, Continues, QuickRoad}
 use Rattle.runs.proofs.PlainSteps.{step_range, step-board}
 use Rattle.runs.proofs.RunLoop.{Left}
@@ -43,6 +47,7 @@ continues-start b m h k =
       goes = rw z (ap (λ x. ran (run_from b m).answer x (run_from b m).machine) (sym (zero-add (run_from b m).used)));
       room = omega arith;
       behind = k;
+      timed = omega arith;
     }
 
 -- two are one
@@ -58,67 +63,67 @@ continues-both b u m₀ m s o p =
           ∙ ap (λ x. ran last.answer x last.machine) sum;
       room = omega (arith, p.room);
       behind = p.behind;
+      timed = omega (arith, o.timed, p.timed);
     }
 
 -- ---- whole instructions
 
-boundary-cycles : (p : plain.Machine) (k t : ℕ) → (boundary p k t).control.counts.cycles ≡ t
+counts-there : (p : plain.Machine) (c : Counts) → (boundary p c).control.counts ≡ c
 unfolding boundary
-boundary-cycles p k t = refl
+counts-there p c = refl
 
-boundary-retired : (p : plain.Machine) (k t : ℕ) → (boundary p k t).control.counts.retired ≡ k
-unfolding boundary
-boundary-retired p k t = refl
-
-at-boundary : (b : ℕ) (p : plain.Machine) (k t : ℕ) → t + b ≤ most_cycles → k ≤ t → Continues b (boundary p k t) (stretch 0 (boundary p k t))
-at-boundary b p k t h i =
-    continues-start b (boundary p k t) (omega (arith, boundary-cycles p k t)) (omega (arith, boundary-cycles p k t, boundary-retired p k t))
+at-boundary : (b : ℕ) (p : plain.Machine) (c : Counts) → c.cycles + b ≤ most_cycles → c.retired ≤ c.cycles → Continues b (boundary p c) (stretch 0 (boundary p c))
+at-boundary b p c h i = continues-start b (boundary p c) (rw (counts-there p c) h) (rw (counts-there p c) i)
 
 -- none, or one that meets a stop: it still stands there
-stays : (b : ℕ) (p : plain.Machine) (k t : ℕ) {e : Machine} → e ≡ boundary p k t → t + b ≤ most_cycles → k ≤ t → Continues b (boundary p k t) (stretch 0 e)
-stays b p k t f h i = rw f (at-boundary b p k t h i)
+stays : (b : ℕ) (p : plain.Machine) (c : Counts) {e : Machine} → e ≡ boundary p c → c.cycles + b ≤ most_cycles → c.retired ≤ c.cycles → Continues b (boundary p c) (stretch 0 e)
+stays b p c f h i = rw f (at-boundary b p c h i)
 
-and_none : (p : plain.Machine) (k t : ℕ) → boundary p (k + 0) (t + 0) ≡ boundary p k t
-and_none p k t = rw (add-zero k, add-zero t)
+and_none : (p : plain.Machine) (c : Counts) → boundary p (counts_on 0 0 no_sums c) ≡ boundary p c
+and_none p c = rw (add-zero c.cycles, add-zero c.retired, plus-none c.sums)
 
-continues-wholes : (n b : ℕ) (p : plain.Machine) (k t : ℕ) → p.plain.a < counters → p.plain.board.size ≤ most_bytes → t + b ≤ most_cycles → k ≤ t
-    → Continues b (boundary p k t) (reached k t (wholes n b p))
+continues-wholes : (n b : ℕ) (p : plain.Machine) (c : Counts) → p.plain.a < counters → p.plain.board.size ≤ most_bytes → c.cycles + b ≤ most_cycles → c.retired ≤ c.cycles
+    → Continues b (boundary p c) (reached c (wholes n b p))
 unfolding wholes
-continues-wholes zero b p k t r l h i = stays b p k t (and_none p k t) h i
-continues-wholes (suc n) b p k t r l h i =
+continues-wholes zero b p c r l h i = stays b p c (and_none p c) h i
+continues-wholes (suc n) b p c r l h i =
     by-room (leb longest b) refl
-    (continues-wholes n (b - duration p) (plain.step p) (suc k) (t + duration p) (step_range p r) (rw (step-board p) l))
+    (continues-wholes n (b - duration p) (plain.step p) on (step_range p r) (rw (step-board p) l))
   where
     rest : Wholes
     rest = wholes n (b - duration p) (plain.step p)
 
+    on : Counts
+    on = counts_on (duration p) 1 (adds p) c
+
     next : Machine
-    next = boundary (plain.step p) (suc k) (t + duration p)
+    next = boundary (plain.step p) on
 
     On : Type 0
-    On = t + duration p + (b - duration p) ≤ most_cycles → suc k ≤ t + duration p → Continues (b - duration p) next (reached (suc k) (t + duration p) rest)
+    On = on.cycles + (b - duration p) ≤ most_cycles → on.retired ≤ on.cycles → Continues (b - duration p) next (reached on rest)
 
-    by-stop : (q : ℕ) → stop_met p ≡ q → longest ≤ b → On → Continues b (boundary p k t) (reached k t (met b p q n))
-    by-stop (suc q) e f on = stays b p k t (and_none (plain.step p) k t ∙ stopped-boundary p k t e) h i
-    by-stop zero e f on =
+    by-stop : (q : ℕ) → stop_met p ≡ q → longest ≤ b → On → Continues b (boundary p c) (reached c (met b p q n))
+    by-stop (suc q) e f o = stays b p c (and_none (plain.step p) c ∙ stopped-boundary p c e) h i
+    by-stop zero e f o =
         let fits : duration p ≤ b = omega (arith, duration-short p) in
         let d = duration-positive p e in
         let sum : b ≡ duration p + (b - duration p) = omega arith in
-        let cycles = boundary-cycles (plain.step p) (suc k) (t + duration p) in
-        let retired = boundary-retired (plain.step p) (suc k) (t + duration p) in
-        let one : Continues b (boundary p k t) (stretch (duration p) next) = record {
+        let there = counts-there (plain.step p) on in
+        let from = counts-there p c in
+        let one : Continues b (boundary p c) (stretch (duration p) next) = record {
           within = fits;
-          goes = ap (λ x. run_from x (boundary p k t)) sum ∙ whole p k t (b - duration p) r l e;
-          room = omega arith;
-          behind = omega arith;
+          goes = ap (λ x. run_from x (boundary p c)) sum ∙ whole p c (b - duration p) r l e;
+          room = rw there (omega arith);
+          behind = rw there (omega arith);
+          timed = rw (there, from) (omega (arith, adds-timed p));
         } in
-        let ks : suc k + rest.done ≡ k + (1 + rest.done) = omega arith in
-        let ts : t + duration p + rest.used ≡ t + (duration p + rest.used) = omega arith in
-        rw (sym ks, sym ts) (continues-both b (duration p) (boundary p k t) next (reached (suc k) (t + duration p) rest) one (on (omega arith) (omega arith)))
+        let ts : c.cycles + duration p + rest.used ≡ c.cycles + (duration p + rest.used) = omega arith in
+        let ks : c.retired + 1 + rest.done ≡ c.retired + (1 + rest.done) = omega arith in
+        rw (← ts, ← ks, plus-plus c.sums (adds p) rest.sums) (continues-both b (duration p) (boundary p c) next (reached on rest) one (o (omega arith) (omega arith)))
 
-    by-room : (x : Bool) → leb longest b ≡ x → On → Continues b (boundary p k t) (reached k t (pick x (met b p (stop_met p) n) (wholes_of 0 0 0 p)))
-    by-room false e on = stays b p k t (and_none p k t) h i
-    by-room true e on = by-stop (stop_met p) refl (leb-true longest b e) on
+    by-room : (x : Bool) → leb longest b ≡ x → On → Continues b (boundary p c) (reached c (pick x (met b p (stop_met p) n) (none_done 0 p)))
+    by-room false e o = stays b p c (and_none p c) h i
+    by-room true e o = by-stop (stop_met p) refl (leb-true longest b e) o
 
 -- ---- where whole instructions may begin
 
@@ -146,7 +151,7 @@ module _ (g : List ℕ) (c : Control) (mem : List ℕ) (t : stands c mem ≡ tru
   short : c.board.size ≤ most_bytes
   short = leb-true _ _ (and-true (ltb c.pipe.pc counters) in-range.1).1
 
-  standing : machine g c mem ≡ boundary (plainly (machine g c mem)) c.counts.retired c.counts.cycles
+  standing : machine g c mem ≡ boundary (plainly (machine g c mem)) c.counts
   unfolding boundary
   standing =
       let a = behind c.pipe.pc 8 in
@@ -174,13 +179,13 @@ unfolding skipped
 skipping b m h k = go (leb longest b && stands m.control m.memory) refl
   where
     there : Stretch
-    there = reached m.control.counts.retired m.control.counts.cycles (wholes b b (plainly m))
+    there = reached m.control.counts (wholes b b (plainly m))
 
     go : (t : Bool) → (leb longest b && stands m.control m.memory) ≡ t → Continues b m (pick t there (stretch 0 m))
     go true e =
         let f = (and-true (leb longest b) e).1 in
         subst (λ (x : Machine). Continues b x there) (sym (standing m.registers m.control m.memory f))
-        (continues-wholes b b (plainly m) m.control.counts.retired m.control.counts.cycles (behind-lt m.control.pipe.pc 8)
+        (continues-wholes b b (plainly m) m.control.counts (behind-lt m.control.pipe.pc 8)
         (short m.registers m.control m.memory f) h k)
     go false e = continues-start b m h k
 
@@ -191,11 +196,18 @@ quick-road = record { standing = λ m e. standing m.registers m.control m.memory
 pub came-within : {b : ℕ} (p : plain.Machine) {w : Wholes} → w ≡ wholes b b p → (w.done ≤ b) × (w.used ≤ b)
 came-within {b} p e = rw e (within-budgets b b p)
 
+-- the tally that whole instructions raise stays below what it is taken from
+pub tally-within : (b : ℕ) (p : plain.Machine) (t : Tally) {d u q : ℕ} {k : plain.Machine} → wholes_of d u (told_by t d u) q k ≡ wholes b b p
+    → (t.n ≤ d + t.extra) × (d + t.extra ≤ u)
+tally-within b p t {d} {u} e =
+    let all : total (told_by t d u) ≡ u = ap (λ (w : Wholes). total w.sums) e ∙ wholes-timed b b p ∙ ap (λ (w : Wholes). w.used) (sym e) in
+    (omega arith, omega arith)
+
 module _ (b : ℕ) (m : Machine) {t : Bool} (e : t ≡ (leb longest b && stands m.control m.memory)) where
   pub skip-whole : t ≡ true → {w : Wholes} {k : Machine} → w ≡ wholes b b (plainly m)
-      → k ≡ boundary w.machine (m.control.counts.retired + w.done) (m.control.counts.cycles + w.used) → stretch w.used k ≡ skipped b m
+      → k ≡ boundary w.machine (counts_on w.used w.done w.sums m.control.counts) → stretch w.used k ≡ skipped b m
   unfolding skipped
-  skip-whole i {w} f j = ap (stretch w.used) j ∙ ap (reached m.control.counts.retired m.control.counts.cycles) f ∙ rw (sym e ∙ i)
+  skip-whole i {w} f j = ap (stretch w.used) j ∙ ap (reached m.control.counts) f ∙ rw (sym e ∙ i)
 
   pub skip-none : t ≡ false → stretch 0 m ≡ skipped b m
   unfolding skipped
@@ -216,4 +228,5 @@ left-skip {b} {u} {v} {m₀} {m} {k} l e =
       };
       room = o.room;
       behind = o.behind;
+      timed = omega (arith, o.timed, o.within, l.timed, r);
     }

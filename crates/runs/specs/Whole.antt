@@ -4,14 +4,16 @@ use Rattle.bits.specs.Choice.{pick}
 use Rattle.datapath.specs.Counter.{ahead, behind, counters}
 use Rattle.memory.specs.Memory.{Memory, memory_of, word_at}
 use Rattle.plain.specs.Machine as plain
+use Rattle.semantics.specs.Sums.{total}
 use Rattle.cycle.specs.declared.Control.{Control}
+use Rattle.cycle.specs.declared.Counts.{Counts}
 use Rattle.plain.specs.Numbers.{most_bytes}
 use Rattle.cycle.specs.Machine.{Machine, most_cycles}
 use Rattle.cycle.specs.StopFound.{is_step1}
 use Rattle.plain.specs.Running.{more_by}
 use Rattle.plain.specs.Whole.{Wholes, longest, wholes, going}
 use Rattle.runs.specs.Run.{run_from}
-use Rattle.runs.specs.Boundary.{boundary}
+use Rattle.runs.specs.Boundary.{boundary, counts_on}
 
 -- a stretch of a run: the cycles that it used, and where it came to
 pub record Stretch : Type 0 where
@@ -60,27 +62,28 @@ plainly m =
     let c = m.control in
     going m.registers c.flags (behind c.pipe.pc 8) c.board m.memory
 
--- where whole instructions came to from the boundary core with k retired in t cycles
-abbrev pub reached : ℕ → ℕ → Wholes → Stretch
-reached k t w = stretch w.used (boundary w.machine (k + w.done) (t + w.used))
+-- where whole instructions came to from the boundary core with these counts
+abbrev pub reached : Counts → Wholes → Stretch
+reached n w = stretch w.used (boundary w.machine (counts_on w.used w.done w.sums n))
 
 -- where the core stands between two instructions and the longest fits: no more of them than the budget has cycles, since each takes one or more
 unfoldable pub skipped : ℕ → Machine → Stretch
 skipped b m =
     let c = m.control in
-    pick (leb longest b && stands c m.memory) (reached c.counts.retired c.counts.cycles (wholes b b (plainly m))) (stretch 0 m)
+    pick (leb longest b && stands c m.memory) (reached c.counts (wholes b b (plainly m))) (stretch 0 m)
 
 -- ---- why the road is a run's
 
--- a run of this budget from m goes on from where the stretch came to, and both counts have room for the rest
+-- a run of this budget from m goes on from where the stretch came to, the counts have room for the rest, and the sums rise by no more than the cycles
 pub record Continues (budget : ℕ) (m : Machine) (s : Stretch) : Type 0 where
   pub within : s.used ≤ budget
   pub goes : run_from budget m ≡ more_by s.used (run_from (budget - s.used) s.machine)
   pub room : s.machine.control.counts.cycles + (budget - s.used) ≤ most_cycles
   pub behind : s.machine.control.counts.retired ≤ s.machine.control.counts.cycles
+  pub timed : total s.machine.control.counts.sums ≤ total m.control.counts.sums + s.used
 
 pub record QuickRoad : Type 0 where
   -- where a core stands between two instructions, it is the boundary core of the plain machine
-  pub standing : (m : Machine) → stands m.control m.memory ≡ true → m ≡ boundary (plainly m) m.control.counts.retired m.control.counts.cycles
+  pub standing : (m : Machine) → stands m.control m.memory ≡ true → m ≡ boundary (plainly m) m.control.counts
   -- a run goes on from the boundary after whole instructions
   pub skipping : (b : ℕ) (m : Machine) → m.control.counts.cycles + b ≤ most_cycles → m.control.counts.retired ≤ m.control.counts.cycles → Continues b m (skipped b m)

@@ -1,8 +1,10 @@
 // The quick road of a run: whole instructions by the plain machine's loop, where the core stands between two and the longest fits.
-ghost use Rattle.std.specs.Prelude.{◌≡◌, ◌&&◌, List, ℕ, ◌+◌, ◌≤◌, leb};
+ghost use Rattle.std.specs.Prelude.{◌≡◌, ◌&&◌, List, ℕ, ◌+◌, ◌≤◌, ◌<◌, ◌^◌, leb};
 ghost use Rattle.plain.specs.Machine as plain;
 ghost use Rattle.plain.specs.Whole.{longest};
-ghost use Rattle.cycle.specs.Machine.{machine, most_cycles};
+ghost use Rattle.cycle.specs.Machine.{machine, counts, most_cycles};
+ghost use Rattle.semantics.specs.Sums.{plus, total};
+ghost use Rattle.semantics.specs.Tally.{told_by};
 ghost use Rattle.runs.specs.Boundary.{boundary};
 ghost use Rattle.runs.specs.Whole.{stretch, same, stands, skipped};
 
@@ -11,9 +13,11 @@ use cycle::stop::is_step1;
 use cycle::{Control, Counts, Pipe};
 use datapath::counter::{COUNTERS, ahead, behind};
 use memory::fetch;
+use plain::Came;
 use plain::numbers::MOST_BYTES;
 use plain::whole::{LONGEST, wholes};
 use registers::Context;
+use semantics::{Sums, Tally};
 use steps::{Latches, Phase};
 
 // About to do step 1: no stop held, nothing latched, and the pipe holds what fetches would give now.
@@ -46,7 +50,7 @@ fn may_skip(c: Control, memory: &[u8], budget: u64) -> bool
 // The boundary core.
 #[tactic(auto, unfolding(crate::specs::Boundary::boundary))]
 fn control_at(c: Context, counts: Counts, memory: &[u8]) -> Control
-    ensures { (g : List ℕ) (stop : ℕ) → machine g result memory.now ≡ boundary (plain.machine (plain.plain g c.a c.flags stop c.board) memory.now) counts.retired counts.cycles }
+    ensures { (g : List ℕ) (stop : ℕ) → machine g result memory.now ≡ boundary (plain.machine (plain.plain g c.a c.flags stop c.board) memory.now) counts }
 {
     let word = fetch(memory, c.board, c.a);
     let next = fetch(memory, c.board, ahead(c.a, 4));
@@ -67,9 +71,27 @@ fn control_at(c: Context, counts: Counts, memory: &[u8]) -> Control
     }
 }
 
+// The counts after whole instructions: each has one access of its own, and what is no access is internal.
+fn counts_after(n: Counts, came: Came, w: Tally) -> Counts
+    requires { (n.cycles + came.used < 2 ^ 63) × (n.retired + came.done < 2 ^ 63) × (n.sums.n + came.used < 2 ^ 63) × (n.sums.s + came.used < 2 ^ 63) × (n.sums.i + came.used < 2 ^ 63) × (w.n ≤ came.done + w.extra) × (came.done + w.extra ≤ came.used) }
+    ensures { result ≡ counts (n.cycles + came.used) (n.retired + came.done) (plus n.sums (told_by w came.done came.used)) }
+{
+    let accesses = came.done + w.extra;
+    let sums = Sums {
+        n: n.sums.n + w.n,
+        s: n.sums.s + (accesses - w.n),
+        i: n.sums.i + (came.used - accesses),
+    };
+    Counts {
+        cycles: n.cycles + came.used,
+        retired: n.retired + came.done,
+        sums,
+    }
+}
+
 // Whole instructions where the core stands between two and the longest fits, else nothing.
 pub fn skip(c: Control, registers: &mut [u32; 15], memory: &mut [u8], budget: u64) -> Advanced
-    requires { (c.counts.cycles + budget ≤ most_cycles) × (c.counts.retired ≤ c.counts.cycles) }
+    requires { (c.counts.cycles + budget ≤ most_cycles) × (c.counts.retired ≤ c.counts.cycles) × (total c.counts.sums + budget < 2 ^ 62) }
     ensures { stretch result.used (machine registers.new result.control memory.new) ≡ skipped budget (machine registers.old c memory.old) }
 {
     if may_skip(c, memory, budget) {
@@ -78,11 +100,9 @@ pub fn skip(c: Control, registers: &mut [u32; 15], memory: &mut [u8], budget: u6
             a: behind(c.pipe.pc, 8),
             board: c.board,
         };
-        let came = wholes(registers, memory, from, budget, budget);
-        let counts = Counts {
-            cycles: c.counts.cycles + came.used,
-            retired: c.counts.retired + came.done,
-        };
+        let mut w = Tally::default();
+        let came = wholes(registers, memory, from, budget, budget, &mut w);
+        let counts = counts_after(c.counts, came, w);
         let to = Context {
             flags: came.flags,
             a: came.a,

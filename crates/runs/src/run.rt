@@ -1,6 +1,7 @@
 // Cycles until the budget is spent or a stop is found.
 ghost use Rattle.std.specs.Prelude.{◌≡◌, ◌+◌, ◌≤◌};
 ghost use Rattle.cycle.specs.Machine.{machine, most_cycles};
+ghost use Rattle.semantics.specs.Sums.{total};
 ghost use Rattle.plain.specs.Told.{ran_to};
 ghost use Rattle.runs.specs.Run.{run_from};
 
@@ -19,7 +20,7 @@ pub fn run_from(
     memory: &mut [u8],
     budget: u64,
 ) -> Ran<Control>
-    requires { (c.counts.cycles + budget ≤ most_cycles) × (c.counts.retired ≤ c.counts.cycles) }
+    requires { (c.counts.cycles + budget ≤ most_cycles) × (c.counts.retired ≤ c.counts.cycles) × (total c.counts.sums ≤ c.counts.cycles) }
     ensures { ran_to (λ d. machine registers.new d memory.new) result ≡ run_from budget (machine registers.old c memory.old) }
 {
     let mut at = c;

@@ -8,3 +8,7 @@ pub mod Stopped
 pub mod StoredCounters
 pub mod WordDurations
 pub mod Stops
+pub mod Tallies
+pub mod WordSums
+pub mod MarkedSums
+pub mod SumLaws

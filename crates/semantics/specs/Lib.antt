@@ -3,8 +3,11 @@ pub mod Effect
 pub mod Perform
 pub mod Told
 pub mod Duration
+pub mod Sums
+pub mod Tally
 pub mod Marked
 pub mod MarkedMultiply
+pub mod MarkedSums
 pub mod BranchOffsets
 pub mod OwnBase
 pub mod Stopped

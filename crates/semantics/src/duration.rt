@@ -8,8 +8,7 @@ ghost use Rattle.semantics.specs.Duration.{with_refills, duration_of};
 use crate::own_steps::{
     BRANCH_STEPS, REFILLS, block_steps, multiply_steps, processing_steps, single_steps,
 };
-use bits::bit;
-use datapath::alu::stores_result;
+use crate::stores::{block_stores, processing_stores, single_stores};
 use word::{Block, Instruction, Processing, Single, reader};
 
 fn with_refills(steps: u32, stores: bool) -> u32
@@ -22,22 +21,19 @@ fn with_refills(steps: u32, stores: bool) -> u32
 fn processing_duration(i: Processing) -> u32
     ensures { (g : List ℕ) → result ≡ duration_of (Instruction.Processing i) g }
 {
-    with_refills(
-        processing_steps(i),
-        stores_result(i.operation) & !(i.rd < 15),
-    )
+    with_refills(processing_steps(i), processing_stores(i))
 }
 
 fn single_duration(i: Single) -> u32
     ensures { (g : List ℕ) → result ≡ duration_of (Instruction.Single i) g }
 {
-    with_refills(single_steps(i), i.l & !(i.rd < 15))
+    with_refills(single_steps(i), single_stores(i))
 }
 
 fn block_duration(i: Block) -> u32
     ensures { (g : List ℕ) → result ≡ duration_of (Instruction.Block i) g }
 {
-    with_refills(block_steps(i), i.l & bit(i.list, 15))
+    with_refills(block_steps(i), block_stores(i))
 }
 
 pub fn duration_of(word: u32, registers: &[u32; 15]) -> u32

@@ -3,8 +3,11 @@
 
 pub mod branch;
 pub mod duration;
+pub mod kinds;
 pub mod own_steps;
 pub mod perform;
+pub mod raise;
+pub mod stores;
 
 // What came of an instruction that is done, beside registers and memory: the flags; the address of the next instruction; the cycles taken.
 #[derive(Clone, Copy)]
@@ -12,4 +15,20 @@ pub struct Performed {
     pub flags: u32,
     pub next: u32,
     pub cycles: u32,
+}
+
+// Cycles by kind: non-sequential, sequential and internal.
+#[derive(Clone, Copy, Default)]
+pub struct Sums {
+    pub n: u64,
+    pub s: u64,
+    pub i: u64,
+}
+
+// What whole instructions count as they go: their non-sequential accesses, and those beyond the one access that each has. With it
+// processing and multiplies, which are most of what runs, count nothing.
+#[derive(Clone, Copy, Default)]
+pub struct Tally {
+    pub n: u64,
+    pub extra: u64,
 }

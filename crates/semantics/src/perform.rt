@@ -1,9 +1,9 @@
 // An instruction word in a state: skipped, stopped or done. The registers and the memory are lent, the rest goes by value.
-ghost use Rattle.std.specs.Prelude.{◌≡◌, ◌+◌, ◌≤◌};
+ghost use Rattle.std.specs.Prelude.{◌≡◌, ◌+◌, ◌<◌, ◌≤◌, ◌^◌};
 ghost use Rattle.word.specs.declared.Instruction.{Instruction};
 ghost use Rattle.word.specs.Reader.{read_of};
 ghost use Rattle.transfer.specs.Single.{changed_base, address_of};
-ghost use Rattle.transfer.specs.Block.{named, loads};
+ghost use Rattle.transfer.specs.Block.{named, loads, count};
 ghost use Rattle.datapath.specs.Counter.{ahead};
 ghost use Rattle.memory.specs.Memory.{Memory, memory_of, word_at};
 ghost use Rattle.registers.specs.Registers.{arrives};
@@ -12,13 +12,16 @@ ghost use Rattle.semantics.specs.Effect.{Left, base_then_register, base_then_reg
 ghost use Rattle.semantics.specs.Duration.{single_steps, block_steps, refills, next_address};
 ghost use Rattle.semantics.specs.Perform.{result_of, performed, done, executed, performs};
 ghost use Rattle.semantics.specs.Told.{done_by, told};
+ghost use Rattle.semantics.specs.Sums.{load_sums, store_sums, block_load_sums, executed_sums, performs_sums};
+ghost use Rattle.semantics.specs.Tally.{tally, raised, with_refills};
 
-use crate::Performed;
 use crate::branch::branch;
 use crate::own_steps::{
     BRANCH_STEPS, REFILLS, SKIPPED_STEPS, block_steps, multiply_steps, processing_steps,
     single_steps,
 };
+use crate::raise::raise;
+use crate::{Performed, Tally};
 use bits::field;
 use condition::passes;
 use datapath::counter::{ahead, counter};
@@ -28,6 +31,7 @@ use processing::{operand_at, process_taken};
 use registers::{Context, Outcome, arrive};
 use stops::reason::Stop;
 use stops::stop::{block_stop, multiply_stop, processing_stop, single_stop_at};
+use transfer::named::count;
 use transfer::{Reach, block, single};
 use word::{Block, Branch, Instruction, Multiply, Processing, Single, reader};
 
@@ -43,17 +47,21 @@ fn went_on(a: u32, steps: u32, flags: u32) -> Performed
 }
 
 // Done in so many own steps, plus 2 if the counter was stored.
-fn done(a: u32, steps: u32, t: Outcome) -> Performed
-    requires { steps ≤ 18 }
-    ensures { done_by result ≡ performed 0 t.flags (next_address a t.goes) (steps + refills t.goes) }
+fn done(a: u32, steps: u32, t: Outcome, w: &mut Tally) -> Performed
+    requires { (steps ≤ 18) × (w.old.n < 2 ^ 63) × (w.old.extra < 2 ^ 63) }
+    ensures told { done_by result ≡ performed 0 t.flags (next_address a t.goes) (steps + refills t.goes) }
+    ensures tally { w.new ≡ with_refills w.old t.goes }
 {
     match t.goes {
         None => went_on(a, steps, t.flags),
-        Some(word) => Performed {
-            flags: t.flags,
-            next: counter(word),
-            cycles: steps + REFILLS,
-        },
+        Some(word) => {
+            raise(w, 1, 2);
+            Performed {
+                flags: t.flags,
+                next: counter(word),
+                cycles: steps + REFILLS,
+            }
+        }
     }
 }
 
@@ -62,13 +70,17 @@ fn perform_processing(
     i: Processing,
     registers: &mut [u32; 15],
     c: Context,
+    w: &mut Tally,
 ) -> Result<Performed, Stop>
-    ensures { (mem : Memory) → result_of (told c.flags c.a result) registers.new mem ≡ executed (Instruction.Processing i) (state registers.old c.flags c.a mem) }
+    requires { (w.old.n < 2 ^ 62) × (w.old.extra < 2 ^ 62) }
+    ensures told { (mem : Memory) → result_of (told c.flags c.a result) registers.new mem ≡ executed (Instruction.Processing i) (state registers.old c.flags c.a mem) }
+    ensures tally { (mem : Memory) → w.new ≡ raised w.old (executed_sums (Instruction.Processing i) (state registers.old c.flags c.a mem)) }
 {
     let t = operand_at(i, registers, c);
     processing_stop(i)?;
     let steps = processing_steps(i);
-    Ok(done(c.a, steps, process_taken(i, t, registers)))
+    let left = process_taken(i, t, registers);
+    Ok(done(c.a, steps, left, w))
 }
 
 // `arrive`, with each part of what it leaves told by itself.
@@ -92,17 +104,23 @@ fn base_then_register(
     arrived(registers, flags, i.rd, value)
 }
 
-fn load(i: Single, at: Reach, registers: &mut [u32; 15], memory: &[u8], c: Context) -> Performed
-    requires { (at.base ≡ changed_base i registers.old c.flags (ahead c.a 8)) × (at.address ≡ address_of i registers.old c.flags (ahead c.a 8)) }
-    ensures { result_of (done_by result) registers.new (memory_of c.board memory.now) ≡ done (state_in c registers.old memory.now) (single_steps i) (load_effect i (state_in c registers.old memory.now)) }
+fn load(
+    i: Single,
+    at: Reach,
+    registers: &mut [u32; 15],
+    memory: &[u8],
+    c: Context,
+    w: &mut Tally,
+) -> Performed
+    requires { (at.base ≡ changed_base i registers.old c.flags (ahead c.a 8)) × (at.address ≡ address_of i registers.old c.flags (ahead c.a 8)) × (w.old.n < 2 ^ 62) × (w.old.extra < 2 ^ 62) }
+    ensures told { result_of (done_by result) registers.new (memory_of c.board memory.now) ≡ done (state_in c registers.old memory.now) (single_steps i) (load_effect i (state_in c registers.old memory.now)) }
+    ensures tally { w.new ≡ with_refills (raised w.old load_sums) (load_effect i (state_in c registers.old memory.now)).out.goes }
 {
     let value = single::loaded_value(i, memory, c.board, at.address);
     let steps = single_steps(i);
-    done(
-        c.a,
-        steps,
-        base_then_register(i, registers, c.flags, at.base, value),
-    )
+    raise(w, 1, 1);
+    let left = base_then_register(i, registers, c.flags, at.base, value);
+    done(c.a, steps, left, w)
 }
 
 #[tactic(auto, unfolding(crate::specs::Effect::store_effect))]
@@ -112,10 +130,13 @@ fn store(
     registers: &mut [u32; 15],
     memory: &mut [u8],
     c: Context,
+    w: &mut Tally,
 ) -> Performed
-    requires { (at.base ≡ changed_base i registers.old c.flags (ahead c.a 8)) × (at.address ≡ address_of i registers.old c.flags (ahead c.a 8)) }
-    ensures { result_of (done_by result) registers.new (memory_of c.board memory.new) ≡ done (state_in c registers.old memory.old) (single_steps i) (store_effect i (state_in c registers.old memory.old)) }
+    requires { (at.base ≡ changed_base i registers.old c.flags (ahead c.a 8)) × (at.address ≡ address_of i registers.old c.flags (ahead c.a 8)) × (w.old.n < 2 ^ 62) × (w.old.extra < 2 ^ 62) }
+    ensures told { result_of (done_by result) registers.new (memory_of c.board memory.new) ≡ done (state_in c registers.old memory.old) (single_steps i) (store_effect i (state_in c registers.old memory.old)) }
+    ensures tally { w.new ≡ raised w.old store_sums }
 {
+    raise(w, 2, 1);
     let value = single::stored_value(registers, i.rd, c.r15(12));
     single::store(i, memory, c.board, at.address, value);
     single::write_base(i, registers, at.base);
@@ -127,15 +148,18 @@ fn perform_single(
     registers: &mut [u32; 15],
     memory: &mut [u8],
     c: Context,
+    w: &mut Tally,
 ) -> Result<Performed, Stop>
-    ensures { result_of (told c.flags c.a result) registers.new (memory_of c.board memory.new) ≡ executed (Instruction.Single i) (state_in c registers.old memory.old) }
+    requires { (w.old.n < 2 ^ 62) × (w.old.extra < 2 ^ 62) }
+    ensures told { result_of (told c.flags c.a result) registers.new (memory_of c.board memory.new) ≡ executed (Instruction.Single i) (state_in c registers.old memory.old) }
+    ensures tally { w.new ≡ raised w.old (executed_sums (Instruction.Single i) (state_in c registers.old memory.old)) }
 {
     let at = single::reach(i, registers, c.r15(8));
     single_stop_at(i, at.address, c)?;
     Ok(if i.l {
-        load(i, at, registers, memory, c)
+        load(i, at, registers, memory, c, w)
     } else {
-        store(i, at, registers, memory, c)
+        store(i, at, registers, memory, c, w)
     })
 }
 
@@ -161,23 +185,38 @@ fn base_then_registers(
     loaded(i.list, registers, lowest, memory, c)
 }
 
-fn load_block(i: Block, registers: &mut [u32; 15], memory: &[u8], c: Context) -> Performed
-    ensures { result_of (done_by result) registers.new (memory_of c.board memory.now) ≡ done (state_in c registers.old memory.now) (block_steps i) (block_load_effect i (state_in c registers.old memory.now)) }
+fn load_block(
+    i: Block,
+    registers: &mut [u32; 15],
+    memory: &[u8],
+    c: Context,
+    w: &mut Tally,
+) -> Performed
+    requires { (w.old.n < 2 ^ 62) × (w.old.extra < 2 ^ 62) }
+    ensures told { result_of (done_by result) registers.new (memory_of c.board memory.now) ≡ done (state_in c registers.old memory.now) (block_steps i) (block_load_effect i (state_in c registers.old memory.now)) }
+    ensures tally { w.new ≡ with_refills (raised w.old (block_load_sums (count i))) (block_load_effect i (state_in c registers.old memory.now)).out.goes }
 {
     let lowest = block::lowest_address(i, registers);
     let base = block::changed_base(i, registers);
     let steps = block_steps(i);
-    done(
-        c.a,
-        steps,
-        base_then_registers(i, registers, base, lowest, memory, c),
-    )
+    raise(w, 1, u64::from(count(i.list)));
+    let left = base_then_registers(i, registers, base, lowest, memory, c);
+    done(c.a, steps, left, w)
 }
 
 #[tactic(auto, unfolding(crate::specs::Effect::block_store_effect))]
-fn store_block(i: Block, registers: &mut [u32; 15], memory: &mut [u8], c: Context) -> Performed
-    ensures { result_of (done_by result) registers.new (memory_of c.board memory.new) ≡ done (state_in c registers.old memory.old) (block_steps i) (block_store_effect i (state_in c registers.old memory.old)) }
+fn store_block(
+    i: Block,
+    registers: &mut [u32; 15],
+    memory: &mut [u8],
+    c: Context,
+    w: &mut Tally,
+) -> Performed
+    requires { (w.old.n < 2 ^ 62) × (w.old.extra < 2 ^ 62) }
+    ensures told { result_of (done_by result) registers.new (memory_of c.board memory.new) ≡ done (state_in c registers.old memory.old) (block_steps i) (block_store_effect i (state_in c registers.old memory.old)) }
+    ensures tally { w.new ≡ tally (w.old.n + 2) (w.old.extra + count i) }
 {
+    raise(w, 2, u64::from(count(i.list)));
     block::store_all(i, registers, c.r15(12), memory, c.board);
     went_on(c.a, block_steps(i), c.flags)
 }
@@ -187,21 +226,32 @@ fn perform_block(
     registers: &mut [u32; 15],
     memory: &mut [u8],
     c: Context,
+    w: &mut Tally,
 ) -> Result<Performed, Stop>
-    ensures { result_of (told c.flags c.a result) registers.new (memory_of c.board memory.new) ≡ executed (Instruction.Block i) (state_in c registers.old memory.old) }
+    requires { (w.old.n < 2 ^ 62) × (w.old.extra < 2 ^ 62) }
+    ensures told { result_of (told c.flags c.a result) registers.new (memory_of c.board memory.new) ≡ executed (Instruction.Block i) (state_in c registers.old memory.old) }
+    ensures tally { w.new ≡ raised w.old (executed_sums (Instruction.Block i) (state_in c registers.old memory.old)) }
 {
     block_stop(i, registers, c)?;
     Ok(if i.l {
-        load_block(i, registers, memory, c)
+        load_block(i, registers, memory, c, w)
     } else {
-        store_block(i, registers, memory, c)
+        store_block(i, registers, memory, c, w)
     })
 }
 
-fn perform_branch(i: Branch, registers: &mut [u32; 15], c: Context) -> Result<Performed, Stop>
-    ensures { (mem : Memory) → result_of (told c.flags c.a result) registers.new mem ≡ executed (Instruction.Branch i) (state registers.old c.flags c.a mem) }
+fn perform_branch(
+    i: Branch,
+    registers: &mut [u32; 15],
+    c: Context,
+    w: &mut Tally,
+) -> Result<Performed, Stop>
+    requires { (w.old.n < 2 ^ 62) × (w.old.extra < 2 ^ 62) }
+    ensures told { (mem : Memory) → result_of (told c.flags c.a result) registers.new mem ≡ executed (Instruction.Branch i) (state registers.old c.flags c.a mem) }
+    ensures tally { (mem : Memory) → w.new ≡ raised w.old (executed_sums (Instruction.Branch i) (state registers.old c.flags c.a mem)) }
 {
-    Ok(done(c.a, BRANCH_STEPS, branch(i, registers, c.flags, c.a)))
+    let left = branch(i, registers, c.flags, c.a);
+    Ok(done(c.a, BRANCH_STEPS, left, w))
 }
 
 // The steps go by Rs before Rd is written, which may be the same.
@@ -219,14 +269,17 @@ fn execute(
     registers: &mut [u32; 15],
     memory: &mut [u8],
     c: Context,
+    w: &mut Tally,
 ) -> Result<Performed, Stop>
-    ensures { result_of (told c.flags c.a result) registers.new (memory_of c.board memory.new) ≡ executed (read_of word) (state_in c registers.old memory.old) }
+    requires { (w.old.n < 2 ^ 62) × (w.old.extra < 2 ^ 62) }
+    ensures told { result_of (told c.flags c.a result) registers.new (memory_of c.board memory.new) ≡ executed (read_of word) (state_in c registers.old memory.old) }
+    ensures tally { w.new ≡ raised w.old (executed_sums (read_of word) (state_in c registers.old memory.old)) }
 {
     match reader::read(word) {
-        Instruction::Processing(i) => perform_processing(i, registers, c),
-        Instruction::Single(i) => perform_single(i, registers, memory, c),
-        Instruction::Block(i) => perform_block(i, registers, memory, c),
-        Instruction::Branch(i) => perform_branch(i, registers, c),
+        Instruction::Processing(i) => perform_processing(i, registers, c, w),
+        Instruction::Single(i) => perform_single(i, registers, memory, c, w),
+        Instruction::Block(i) => perform_block(i, registers, memory, c, w),
+        Instruction::Branch(i) => perform_branch(i, registers, c, w),
         Instruction::Multiply(i) => perform_multiply(i, registers, c),
         Instruction::Other(_) => Err(Stop::OtherWord),
     }
@@ -238,11 +291,14 @@ fn perform(
     registers: &mut [u32; 15],
     memory: &mut [u8],
     c: Context,
+    w: &mut Tally,
 ) -> Result<Performed, Stop>
-    ensures { result_of (told c.flags c.a result) registers.new (memory_of c.board memory.new) ≡ performs (Some word) (state_in c registers.old memory.old) }
+    requires { (w.old.n < 2 ^ 62) × (w.old.extra < 2 ^ 62) }
+    ensures told { result_of (told c.flags c.a result) registers.new (memory_of c.board memory.new) ≡ performs (Some word) (state_in c registers.old memory.old) }
+    ensures tally { w.new ≡ raised w.old (performs_sums (Some word) (state_in c registers.old memory.old)) }
 {
     if passes(field(word, 28, 4), c.flags) {
-        execute(word, registers, memory, c)
+        execute(word, registers, memory, c, w)
     } else {
         Ok(went_on(c.a, SKIPPED_STEPS, c.flags))
     }
@@ -253,11 +309,14 @@ pub fn perform_at(
     registers: &mut [u32; 15],
     memory: &mut [u8],
     c: Context,
+    w: &mut Tally,
 ) -> Result<Performed, Stop>
-    ensures { result_of (told c.flags c.a result) registers.new (memory_of c.board memory.new) ≡ performs (word_at (memory_of c.board memory.old) c.a) (state_in c registers.old memory.old) }
+    requires { (w.old.n < 2 ^ 62) × (w.old.extra < 2 ^ 62) }
+    ensures told { result_of (told c.flags c.a result) registers.new (memory_of c.board memory.new) ≡ performs (word_at (memory_of c.board memory.old) c.a) (state_in c registers.old memory.old) }
+    ensures tally { w.new ≡ raised w.old (performs_sums (word_at (memory_of c.board memory.old) c.a) (state_in c registers.old memory.old)) }
 {
     match fetch(memory, c.board, c.a) {
-        Some(word) => perform(word, registers, memory, c),
+        Some(word) => perform(word, registers, memory, c, w),
         None => Err(Stop::NoWord),
     }
 }

@@ -11,6 +11,7 @@ use Rattle.bits.specs.Choice.{pick}
 use Rattle.cycle.specs.Machine as pipelined
 use Rattle.cycle.specs.StopFound.{is_step1, stop_found}
 use Rattle.refusals.specs.Numbers as numbers
+use Rattle.refusals.proofs.Refusals.{granted}
 use Rattle.pipeline.specs.Calls as pipeline
 use Rattle.runs.specs.Run as run
 use Rattle.runs.proofs.PlainSteps.{Stop, stop-for, stop-met}
@@ -46,10 +47,6 @@ held q = go (eqb q 0) refl (leb 21 q) refl
 second : (a : Bool) {b : Bool} → (a || b) ≡ false → b ≡ false
 second true e = absurd (false≢true (sym e))
 second false e = e
-
-first : (a b : Bool) → (a || b) ≡ false → a ≡ false
-first true b e = absurd (false≢true (sym e))
-first false b e = refl
 
 -- ---- every number that a run refuses with is one
 
@@ -93,16 +90,7 @@ module _ (lent budget : ℕ) (m : pipelined.Machine) where
       (or-number (ltb pipelined.most_cycles (m.control.counts.cycles + budget)) 13 0 refl no_number)))
 
   holds-stop : numbers.refusal lent budget m ≡ 0 → is_stop m.control.stop ≡ true
-  unfolding numbers.refusal numbers.bad
-  holds-stop =
-      go (not (eqb lent m.control.board.size)) (numbers.bad m) (plain_numbers.bad_budget budget) (ltb pipelined.most_cycles (m.control.counts.cycles + budget)) refl
-    where
-      go : (a b k d : Bool) → numbers.bad m ≡ b → pick {A = ℕ} a 12 (pick b 11 (pick k 3 (pick d 13 0))) ≡ 0 → is_stop m.control.stop ≡ true
-      go true b k d p e = absurd (omega arith)
-      go false true k d p e = absurd (omega arith)
-      go false false k d p e =
-          let c = m.control in
-          not-false (is_stop c.stop) (first (not (is_stop c.stop)) (numbers.held_away c.phase c.stop || numbers.bad_phase c.phase m) (second (ltb c.counts.cycles c.counts.retired) (second (ltb pipelined.most_cycles c.counts.cycles) (second (bad_flags c.flags) (second (not (is_counter c.pipe.pc)) (second (bad_length c.board.size) p))))))
+  holds-stop e = (granted lent budget m e).standing
 
   pub core_accepted : numbers.refusal lent budget m ≡ 0 → is_refusal (pipeline.run lent budget m).answer ≡ false
   unfolding pipeline.run

@@ -3,4 +3,4 @@
 use Rattle.std.specs.Prelude.{ℕ}
 
 abbrev pub abi : ℕ
-abi = 1
+abi = 2

@@ -3,8 +3,8 @@ ghost use Rattle.std.specs.Prelude.{◌≡◌};
 ghost use Rattle.slot.specs.Abi.{abi};
 
 #[unsafe(no_mangle)]
-pub extern "C" fn slot_abi_1() -> u32
+pub extern "C" fn slot_abi_2() -> u32
     ensures { result ≡ abi }
 {
-    1
+    2
 }

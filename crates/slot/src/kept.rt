@@ -29,7 +29,7 @@ impl Kept<19> for Plain {
     }
 }
 
-impl Kept<33> for Core {
+impl Kept<39> for Core {
     ghost packed = { core_array.packed };
 
     fn pack(self, words: &mut CoreArray) {

@@ -1,3 +1,2 @@
 pub mod OwnSteps
-pub mod Both
 pub mod LatchTable

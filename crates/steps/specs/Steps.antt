@@ -8,9 +8,9 @@ use Rattle.word.specs.declared.Multiply.{Multiply}
 use Rattle.word.specs.declared.Instruction.{Instruction}
 use Rattle.datapath.specs.Counter.{ahead, behind}
 use Rattle.memory.specs.Memory.{Memory, read_word, write_word}
-use Rattle.registers.specs.Registers.{register, Out, put, arrives}
+use Rattle.registers.specs.Registers.{Out, put, arrives}
 use Rattle.processing.specs.Processing.{processed, by_register?}
-use Rattle.multiply.specs.Multiply.{multiplied}
+use Rattle.multiply.specs.Multiply.{rs_of, multiplied}
 use Rattle.multiply.specs.InternalCycles.{m_of}
 use Rattle.transfer.specs.Single as single
 use Rattle.transfer.specs.Block as block
@@ -41,7 +41,7 @@ abbrev pub own : List ℕ → Step → Memory → Own
 own g s mem = record { registers = g; step = s; memory = mem }
 
 abbrev pub ends : Option ℕ → After
-ends None = Done Executed
+ends None = Done (Executed 0)
 ends (Some word) = Jump word
 
 -- a step that leaves nothing in the latches
@@ -54,7 +54,7 @@ last o mem = own o.registers (still o.flags (ends o.goes)) mem
 
 -- one after which the counter goes on
 abbrev pub done : List ℕ → ℕ → Memory → Own
-done g f mem = own g (still f (Done Executed)) mem
+done g f mem = own g (still f (Done (Executed 0))) mem
 
 -- the instruction goes on with step k + 2
 abbrev pub on : ℕ → Latches → ℕ → Step
@@ -136,9 +136,15 @@ unfoldable pub block_store_later : Block → ℕ → List ℕ → ℕ → ℕ �
 block_store_later i zero g f pc l mem = store_step 0 (block.named i.list) (block.with_base i g l.base) f pc l mem
 block_store_later i (suc k) g f pc l mem = store_step (suc k) (drop (suc k) (block.named i.list)) g f pc l mem
 
+-- the last step of a multiply, which leaves o and tells its m: Rd may be Rs, which then no longer does
+abbrev pub multiply_last : ℕ → Out → Memory → Own
+multiply_last m o mem = own o.registers (still o.flags (Done (Executed m))) mem
+
 -- a multiply's steps 2 to m do nothing; Rd and the flags are written in the last, m+1
 unfoldable pub multiply_later : Multiply → ℕ → List ℕ → ℕ → Memory → Own
-multiply_later i k g f mem = pick (ltb (suc k) (m_of (register g i.rs 0))) (own g (still f (More (Later (suc k)))) mem) (last (multiplied i g f) mem)
+multiply_later i k g f mem =
+    let m = m_of (rs_of i g) in
+    pick (ltb (suc k) m) (own g (still f (More (Later (suc k)))) mem) (multiply_last m (multiplied i g f) mem)
 
 unfoldable pub later_step : Instruction → ℕ → List ℕ → ℕ → ℕ → Latches → Memory → Own
 later_step (Instruction.Processing i) k g f pc l mem = last (processed i g f pc) mem

@@ -59,7 +59,7 @@ fn load_step(k: u32, list: u32, registers: &mut [u32; 15], memory: &[u8], found:
 {
     let left = dropped(list, k);
     match count(left) {
-        0 => still(found.flags, After::Done(Ended::Executed)),
+        0 => still(found.flags, After::Done(Ended::Executed(0))),
         1 => last(arrive(
             registers,
             found.flags,
@@ -108,7 +108,7 @@ fn store_last(memory: &mut [u8], found: Found) -> Step
         found.latches.address,
         found.latches.datum,
     );
-    still(found.flags, After::Done(Ended::Executed))
+    still(found.flags, After::Done(Ended::Executed(0)))
 }
 
 // Step k + 2 of a block store, the base apart.
@@ -117,7 +117,7 @@ fn store_step(k: u32, list: u32, registers: &[u32; 15], memory: &mut [u8], found
 {
     let left = dropped(list, k);
     match count(left) {
-        0 => still(found.flags, After::Done(Ended::Executed)),
+        0 => still(found.flags, After::Done(Ended::Executed(0))),
         1 => store_last(memory, found),
         _ => store_more(k, left, registers, memory, found),
     }

@@ -11,7 +11,7 @@ fn ends(goes: Option<u32>) -> After
     ensures { result ≡ ends goes }
 {
     match goes {
-        None => After::Done(Ended::Executed),
+        None => After::Done(Ended::Executed(0)),
         Some(word) => After::Jump(word),
     }
 }

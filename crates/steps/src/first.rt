@@ -106,6 +106,6 @@ pub fn first_step(word: u32, registers: &mut [u32; 15], r15: R15) -> Step
         Instruction::Branch(i) => first_branch(i, registers, r15),
         // A multiply writes in its last step, which is never this one.
         Instruction::Multiply(_) => still(r15.flags, After::More(Phase::Later(0))),
-        Instruction::Other(_) => still(r15.flags, After::Done(Ended::Executed)),
+        Instruction::Other(_) => still(r15.flags, After::Done(Ended::Executed(0))),
     }
 }

@@ -52,7 +52,7 @@ fn store_later(i: Single, registers: &mut [u32; 15], memory: &mut [u8], found: F
         found.latches.address,
         found.latches.datum,
     );
-    still(found.flags, After::Done(Ended::Executed))
+    still(found.flags, After::Done(Ended::Executed(0)))
 }
 
 fn later_single(
@@ -71,7 +71,7 @@ fn later_single(
     }
 }
 
-// Steps 2 to m do nothing; Rd and the flags are written in the last.
+// Steps 2 to m do nothing; Rd and the flags are written in the last, which tells m: Rd may be Rs.
 fn later_multiply(i: Multiply, k: u32, registers: &mut [u32; 15], flags: u32) -> Step
     ensures { (mem : Memory) → own registers.new result mem ≡ multiply_later i k registers.old flags mem }
 {
@@ -79,7 +79,8 @@ fn later_multiply(i: Multiply, k: u32, registers: &mut [u32; 15], flags: u32) ->
     if u64::from(k) + 1 < u64::from(m) {
         still(flags, After::More(Phase::Later(k + 1)))
     } else {
-        still(multiply(i, registers, flags), After::Done(Ended::Executed))
+        let done = multiply(i, registers, flags);
+        still(done, After::Done(Ended::Executed(m)))
     }
 }
 
@@ -97,8 +98,8 @@ pub fn later_step(
         Instruction::Processing(i) => later_processing(i, registers, found.r15()),
         Instruction::Single(i) => later_single(i, k, registers, memory, found),
         Instruction::Block(i) => later_block(i, k, registers, memory, found),
-        Instruction::Branch(_) => still(found.flags, After::Done(Ended::Executed)),
+        Instruction::Branch(_) => still(found.flags, After::Done(Ended::Executed(0))),
         Instruction::Multiply(i) => later_multiply(i, k, registers, found.flags),
-        Instruction::Other(_) => still(found.flags, After::Done(Ended::Executed)),
+        Instruction::Other(_) => still(found.flags, After::Done(Ended::Executed(0))),
     }
 }

@@ -20,12 +20,13 @@ pub enum Phase {
     Later(u32),
 }
 
-// What ended: the start, with its refills; an instruction whose condition failed; or one that was executed.
+// What ended: the start, with its refills; an instruction whose condition failed; or one that was executed, with m where it is a
+// multiply, taken from Rs before Rd is written, which may be the same; else 0.
 #[derive(Clone, Copy)]
 pub enum Ended {
     Start,
     Skipped,
-    Executed,
+    Executed(u32),
 }
 
 // How a cycle ends: the instruction goes on in a phase; it is done; or it stored the counter.

@@ -5,3 +5,5 @@ pub mod StopOrder
 pub mod HiddenStops
 pub mod Joins
 pub mod Numbers
+pub mod Both
+pub mod Quiet

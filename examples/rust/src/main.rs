@@ -1,5 +1,5 @@
-//! Runs an image and prints every store into a link window: its cycle, and the cycles since the one before.
-//! examples/embed.c is the same program in C.
+//! Runs an image and prints every store into a link window: its cycle, and the cycles since the one before. Then the
+//! cycles, and the instructions done with their ticks of the slot memory. examples/embed.c is the same program in C.
 
 mod slot;
 
@@ -113,7 +113,8 @@ fn watch(out: &mut impl Write, mut core: Core, memory: &mut [u8], window: &Windo
         write!(out, " at {:08X}", core.next_address())?;
     }
     let (from, to) = (window.from, window.to);
-    writeln!(out, " after {cycles} cycles and {} instructions; stores into {from:08X}-{to:08X}: {stores}", core.retired())?;
+    write!(out, " after {cycles} cycles and {} instructions ({} ticks)", core.retired(), core.ticks())?;
+    writeln!(out, "; stores into {from:08X}-{to:08X}: {stores}")?;
     out.flush()
 }
 

@@ -7,8 +7,10 @@ pub const CORE_PHASE: usize = 23;
 pub const CORE_ADDRESS: usize = 24;
 pub const CORE_DATUM: usize = 25;
 pub const CORE_RETIRED: usize = 29;
-pub const CORE_RETIRED_HIGH: usize = 30;
-pub const CORE_WORDS: usize = 33;
+pub const CORE_SUM_N: usize = 33;
+pub const CORE_SUM_S: usize = 35;
+pub const CORE_SUM_I: usize = 37;
+pub const CORE_WORDS: usize = 39;
 pub const PHASE_STEP2: u32 = 3;
 pub const RECORD_CLASS: usize = 0;
 pub const RECORD_B: usize = 5;
@@ -18,7 +20,7 @@ pub const CLASS_SINGLE: u32 = 1;
 pub const CLASS_BLOCK: u32 = 2;
 
 extern "C" {
-    fn slot_abi_1() -> u32;
+    fn slot_abi_2() -> u32;
     fn slot_core_start(core: *mut u32, registers: *const u32, flags: u32, entry: u32, memory: *const u8, length: usize) -> u32;
     fn slot_core_run(core: *mut u32, memory: *mut u8, length: usize, budget: u64, used: *mut u64) -> u32;
     fn slot_word_read(word: u32, record: *mut u32);
@@ -39,10 +41,10 @@ impl Core {
     /// A core at 0 with zero registers and flags, or the number that it is refused with.
     pub fn start(memory: &[u8]) -> Result<Core, u32> {
         let mut words = [0; CORE_WORDS];
-        // SAFETY: each array has the length that the header gives, and nothing overlaps. The layout is that of number 1:
-        // an archive of another number has no slot_abi_1, and the program does not link.
+        // SAFETY: each array has the length that the header gives, and nothing overlaps. The layout is that of number 2:
+        // an archive of another number has no slot_abi_2, and the program does not link.
         let answer = unsafe {
-            assert_eq!(slot_abi_1(), 1);
+            assert_eq!(slot_abi_2(), 2);
             slot_core_start(words.as_mut_ptr(), [0; 15].as_ptr(), 0, 0, memory.as_ptr(), memory.len())
         };
         if answer == 0 {
@@ -81,7 +83,17 @@ impl Core {
         self.words[CORE_PC].wrapping_sub(8) % (1 << 26)
     }
 
+    /// A count: its low word and the next.
+    fn count(&self, low: usize) -> u64 {
+        u64::from(self.words[low + 1]) << 32 | u64::from(self.words[low])
+    }
+
     pub fn retired(&self) -> u64 {
-        u64::from(self.words[CORE_RETIRED_HIGH]) << 32 | u64::from(self.words[CORE_RETIRED])
+        self.count(CORE_RETIRED)
+    }
+
+    /// The ticks of the start's refill and of all instructions done, by the header's way.
+    pub fn ticks(&self) -> u64 {
+        2 * self.count(CORE_SUM_N) + self.count(CORE_SUM_S) + self.count(CORE_SUM_I)
     }
 }

@@ -3,19 +3,23 @@
 
 use driver::arguments::Asked;
 use driver::comparison::Comparison;
-use driver::{directed, multiplies, random_images, rewritten, settles, starts, summary, words};
+use driver::{
+    directed, multiplies, random_images, refills, rewritten, settles, starts, summary, sums, words,
+};
 use interpreter::pipeline::Core;
 use interpreter::plain::Plain;
 use std::process::ExitCode;
 
 type Part = fn(&mut Comparison, u64);
 
-const PARTS: [Part; 8] = [
+const PARTS: [Part; 10] = [
     |comparison, _| starts::all::<Core>(comparison),
     |comparison, _| starts::all::<Plain>(comparison),
     |comparison, _| directed::all(comparison),
     |comparison, _| multiplies::all(comparison),
     |comparison, _| settles::all(comparison),
+    |comparison, _| sums::all(comparison),
+    refills::all,
     random_images::all,
     rewritten::all,
     words::all,

@@ -30,6 +30,9 @@ pub const CYCLES: usize = 27;
 pub const RETIRED: usize = 29;
 pub const STOP: usize = 31;
 pub const LENGTH: usize = 32;
+pub const SUM_N: usize = 33;
+pub const SUM_S: usize = 35;
+pub const SUM_I: usize = 37;
 
 /// What a call is.
 pub const RUN: u32 = 0;
@@ -121,7 +124,7 @@ impl Case {
         fields.iter().fold(self, set)
     }
 
-    /// A count of 64 bits: CYCLES or RETIRED.
+    /// A count of 64 bits: CYCLES, RETIRED or one of the sums.
     pub fn count(self, field: usize, count: u64) -> Case {
         self.field(field, count as u32)
             .field(field + 1, (count >> 32) as u32)

@@ -1,5 +1,6 @@
 //! Test vectors for the core: cases by topic, their text and the expected lines.
 
+mod bad_sums;
 mod blocks;
 mod case;
 mod forms;
@@ -8,13 +9,17 @@ mod limits;
 mod memories;
 mod mixed;
 mod multiplies;
+mod refills;
 mod runs;
 mod starts;
 mod steps;
 mod stops;
+mod sums;
 mod tampered;
 
 pub use case::{Call, Called, Case, Outcome, BUFFER, RUN, SETTLE};
+
+use crate::pipeline::WORDS;
 
 /// Every case, in the order of the files.
 pub fn cases() -> Vec<Case> {
@@ -30,6 +35,9 @@ pub fn cases() -> Vec<Case> {
         tampered::cases(),
         memories::cases(),
         mixed::cases(),
+        sums::cases(),
+        bad_sums::cases(),
+        refills::cases(),
     ];
     topics.into_iter().flatten().collect()
 }
@@ -56,7 +64,7 @@ pub fn read(text: &str) -> Vec<Case> {
     let mut next = |count: u32| -> Vec<u32> { tokens.by_ref().take(count as usize).collect() };
     let mut cases = Vec::new();
     while let [mode, length, k, n] = next(4)[..] {
-        let core = next(33).try_into().expect("a core's array");
+        let core = next(WORDS as u32).try_into().expect("a core's array");
         let words = next(k);
         let call = |it: &[u32]| Call {
             kind: it[0],

@@ -1,5 +1,5 @@
-//! Runs alone: the record in the middle of every form, by single cycles and by one budget, and on to
-//! the stop.
+//! Runs alone: the record in the middle and at the end of every form, by single cycles and by one
+//! budget, and on to the stop.
 
 use super::case::{Case, CYCLES, FLAGS, START};
 use super::forms::{form, forms};
@@ -8,7 +8,7 @@ use crate::assembler::*;
 pub fn cases() -> Vec<Case> {
     let mut cases = Vec::new();
     for form in forms() {
-        for done in 1..form.cycles.max(2) {
+        for done in 1..=form.cycles {
             let topic = format!("run of {done} of {}, {}", form.cycles, form.name);
             let case = form.image().topic(topic);
             // At once or one by one.

@@ -25,7 +25,7 @@ pub fn cases() -> Vec<Case> {
 }
 
 /// After so many cycles of a form's word some fields are set; then a settle, a step, and a settle.
-fn tampered(form: &Form, done: u32, what: &str, fields: &[(usize, u32)]) -> Case {
+pub fn tampered(form: &Form, done: u32, what: &str, fields: &[(usize, u32)]) -> Case {
     let topic = format!("settle tampered, {what}, after {done} of {}", form.name);
     let case = form.after(done).topic(topic).fields(fields);
     case.settle().run(1).settle()
@@ -87,7 +87,7 @@ fn words() -> Vec<Case> {
         let fields = [(IX, word), (10, 0), (ADDRESS, 0x18)];
         cases.push(tampered(&load, 2, what, &fields));
     }
-    // What refills retires, whatever word it is; no word is a start's.
+    // No word is a start's, and refilled; SWI is not.
     for done in [2, 5, 6] {
         let blank = [(IX, 0), (IX + 1, 0)];
         cases.push(tampered(&load, done, "no word", &blank));

@@ -79,13 +79,14 @@ impl Case {
         (answer, Some(core))
     }
 
-    /// The report: answer, cycles and retired in decimal, the rest hexadecimal.
+    /// The report: answer, cycles, ticks and retired in decimal, the rest hexadecimal.
     pub fn report(&self) -> String {
         let (answer, core) = self.outcome();
         let mut text = format!("answer={answer}\n");
         if let Some(core) = core {
             text += &format!("pc={:08X}\n", core.pc);
             text += &format!("cycles={}\n", core.cycles);
+            text += &format!("ticks={}\n", core.sums.ticks());
             text += &format!("retired={}\n", core.retired);
             text += &format!("flags={:X}\n", core.flags);
             for (name, value) in core.r.iter().enumerate() {

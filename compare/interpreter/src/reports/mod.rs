@@ -6,6 +6,7 @@ mod images;
 mod multiplies;
 mod registers;
 mod stops;
+mod ticks;
 
 pub use case::{Case, BUDGET, BUFFER};
 
@@ -17,6 +18,7 @@ pub fn cases() -> Vec<Case> {
         budgets::cases(),
         registers::cases(),
         multiplies::cases(),
+        ticks::cases(),
     ];
     topics.into_iter().flatten().collect()
 }

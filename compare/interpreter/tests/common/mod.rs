@@ -4,9 +4,11 @@
 
 pub mod records;
 pub mod slow;
+pub mod table;
 
 use interpreter::pipeline::{Core, Phase};
 use interpreter::plain::Plain;
+use interpreter::sums::Sums;
 
 /// A memory of `length` bytes with words from 0 on.
 pub fn memory(length: usize, words: &[u32]) -> Vec<u8> {
@@ -25,6 +27,7 @@ pub struct After {
     pub a: u32,
     pub memory: Vec<u8>,
     pub cycles: u64,
+    pub sums: Sums,
 }
 
 /// One instruction at `entry` on both machines, which agree.
@@ -41,6 +44,7 @@ pub fn one(mut memory: Vec<u8>, entry: u32, word: u32, r: [u32; 15], flags: u32)
     assert_eq!(answer, 0);
     let (answer, used, mut core) = core.run(&mut other, 2);
     assert_eq!((answer, used), (0, 2));
+    assert_eq!(core.sums, table::START);
     loop {
         let (answer, used, next) = core.run(&mut other, 1);
         core = next;
@@ -48,6 +52,7 @@ pub fn one(mut memory: Vec<u8>, entry: u32, word: u32, r: [u32; 15], flags: u32)
         if used == 0 || core.phase == Phase::Step(1) {
             break;
         }
+        assert_eq!(core.sums, table::START);
     }
     assert_eq!(core.stop, stop);
     assert_eq!(core.r, plain.r);
@@ -62,6 +67,11 @@ pub fn one(mut memory: Vec<u8>, entry: u32, word: u32, r: [u32; 15], flags: u32)
         a: plain.a,
         memory,
         cycles: core.cycles - 2,
+        sums: Sums {
+            n: core.sums.n - 1,
+            s: core.sums.s - 1,
+            i: core.sums.i,
+        },
     }
 }
 

@@ -1,9 +1,13 @@
 //! Cores that a run takes, and cores that it refuses.
 
+use super::table::sums;
+use interpreter::arm::Shift;
+use interpreter::assembler::*;
 use interpreter::pipeline::Core;
 use interpreter::pipeline::Phase::{Refill1, Refill2, Step};
 use interpreter::programs::{self, instruction};
 use interpreter::random::Random;
+use interpreter::sums::Sums;
 
 /// A core on a boundary of a memory of 64 bytes, that could be run.
 pub fn good() -> Core {
@@ -15,6 +19,7 @@ pub fn good() -> Core {
         ix: Some(0xF000_0000),
         cycles: 10,
         retired: 4,
+        sums: sums([2, 4, 1]),
         length: 64,
         ..Core::zeroed()
     }
@@ -23,6 +28,41 @@ pub fn good() -> Core {
 /// What no run and no settle takes, each bad for one reason.
 pub fn bad_cores() -> Vec<Core> {
     let core = good();
+    let mut bad = bad_by_numbers(&core);
+    bad.extend(bad_sums().map(|sums| Core {
+        sums,
+        ..core.clone()
+    }));
+    // Its word is of a condition that never passes.
+    bad.extend([Refill1, Refill2].map(|phase| Core {
+        phase,
+        ..core.clone()
+    }));
+    bad
+}
+
+/// Above 10 cycles, though they may not be modulo 2^64.
+fn bad_sums() -> [Sums; 12] {
+    const TOP: u64 = 1 << 63;
+    const THIRD: u64 = u64::MAX / 3;
+    [
+        [11, 0, 0],
+        [0, 11, 0],
+        [0, 0, 11],
+        [4, 4, 3],
+        [1 << 32, 0, 0],
+        [TOP, TOP, 0],
+        [0, TOP, TOP],
+        [TOP, 10, TOP],
+        [u64::MAX, 1, 0],
+        [u64::MAX, 0, 11],
+        [THIRD, THIRD, THIRD + 1],
+        [u64::MAX; 3],
+    ]
+    .map(sums)
+}
+
+fn bad_by_numbers(core: &Core) -> Vec<Core> {
     vec![
         Core {
             length: 0,
@@ -80,11 +120,13 @@ pub fn bad_cores() -> Vec<Core> {
         Core {
             stop: 21,
             phase: Refill1,
+            ix: None,
             ..core.clone()
         },
         Core {
             stop: 25,
             phase: Refill2,
+            ix: Some(branch(0)),
             ..core.clone()
         },
         Core {
@@ -137,9 +179,13 @@ pub fn any_core(random: &mut Random) -> Core {
         base: random.below(64),
         cycles: 30,
         retired: random.below(30).into(),
+        sums: sums([0; 3].map(|_| random.below(4).into())),
         stop: 0,
         length: 64,
     };
+    if matches!(core.phase, Refill1 | Refill2) && random.chance(2, 3) {
+        core.ix = Some(to_r15(random));
+    }
     match random.below(60) {
         0 => core.pc = random.word(),
         1 => core.pc = 0x03FF_FFFC,
@@ -148,7 +194,32 @@ pub fn any_core(random: &mut Random) -> Core {
         4 => core.stop = random.below(30),
         5 => core.retired = 31,
         6 => core.cycles = (1 << 40) - 20,
+        // As many as the cycles, some more, or some less, by which a retirement soon passes them.
+        7..=14 => core.sums = sums([0; 3].map(|_| 5 + u64::from(random.below(8)))),
+        15 => core.sums.i = random.draw(),
         _ => {}
     }
     core
+}
+
+/// A word that can store the counter, whether its condition passes or not.
+fn to_r15(random: &mut Random) -> u32 {
+    let word = random.pick(&[
+        branch(-2),
+        branch_link(-3),
+        mov(15, plain(1)),
+        ops(ADD, 15, 15, by_register(3, Shift::Lsr, 3)),
+        ldr(15, 15, 4),
+        block(LOAD | UP | W, 1, 0x8006),
+        block(LOAD, 3, 0xFFFF),
+    ]);
+    on(random.below(15), word)
+}
+
+/// A run or a settle takes the sums, as far as they go. An accepted call may leave a record of which
+/// this isn't so, though not one that begins with a start.
+pub fn sums_are_good(core: &Core) -> bool {
+    let Sums { n, s, i } = core.sums;
+    let together = n.checked_add(s).and_then(|sum| sum.checked_add(i));
+    together.is_some_and(|together| together <= core.cycles)
 }

@@ -3,8 +3,17 @@ use Rattle.std.proofs.Common.{sym, refl}
 use Rattle.plain.proofs.Told.{some_number}
 use Rattle.report.specs.Report.{begun}
 use Rattle.report.proofs.Room.{whole}
+use Rattle.report.proofs.OneRun.{told-sums}
 use Rattle.report.proofs.Told.{refused, accepted}
 use Rattle.report.proofs.report.Goals as goal
+
+pub run_lines-requires : goal.run_lines-requires
+unfolding begun
+run_lines-requires c = told-sums c.args.image.now _ c.in-Ok.ensures refl _ c.in-Ok-run.ensures
+
+pub run_lines-requires-in-Err-run : goal.run_lines-requires-in-Err-run
+unfolding begun
+run_lines-requires-in-Err-run c = told-sums c.args.image.now _ c.in-Ok.ensures refl _ c.in-Err-run.ensures
 
 pub returns-in-Ok-run : goal.returns-in-Ok-run
 unfolding begun

@@ -10,7 +10,7 @@ pub returns-in_err-at_once : goal.returns-in_err-at_once
 returns-in_err-at_once c = refused_run _ _ _ _ c.from_residual.ensures.1 ∙ ended _ _ _ (c.in_err-at_once.ensures _) (some_number _)
 
 pub run_from-went-requires : goal.run_from-went-requires
-run_from-went-requires c = let r = room _ _ _ (c.in_ok-at_once.ensures c.args.memory.now) (ap held_number c.in-None.is) in (r.room, r.behind)
+run_from-went-requires c = let r = room _ _ _ (c.in_ok-at_once.ensures c.args.memory.now) (ap held_number c.in-None.is) in (r.room, r.behind, r.timed)
 
 pub returns : goal.returns
 returns c = elim c.match-branch-2.branch [

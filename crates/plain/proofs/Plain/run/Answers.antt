@@ -19,6 +19,9 @@ returns-in-Ok c = ends_by _ _ c.in-Ok.ensures.1 (some_number _) ∙ goes_by _ _ 
 pub overflow_mul-count : goal.overflow_mul-count
 overflow_mul-count c = record { fits = omega (arith, budgeted _ _ _ c.in_ok-refusal.ensures refl) }
 
+pub wholes-came-requires : goal.wholes-came-requires
+wholes-came-requires c = (c.default-w.ensures.0, c.default-w.ensures.1, omega (arith, budgeted _ _ _ c.in_ok-refusal.ensures refl))
+
 pub returns : goal.returns
 unfolding run
 returns c =

@@ -1,31 +1,34 @@
--- The loop's invariant: what is left of both budgets, from here, comes to the whole. Assumes nothing.
-use Rattle.std.proofs.Common.{rules, ◌≡◌, refl, arith}
+use Rattle.std.proofs.Common.{rules, refl, sym, ◌∙◌, arith}
 use Rattle.stops.proofs.Numbers.{some_number}
-use Rattle.plain.proofs.WholeSteps.{left_step, left-stop, left-short, left-done, left-cycles, stop-told, cycles-told, step-told, goes-told}
+use Rattle.plain.specs.Whole.{going}
+use Rattle.plain.proofs.WholeSteps.{left-start, left_step, left-stop, left-short, left-done, stopped-tally, left-cycles, stop-told, cycles-told, step-told, adds-told, goes-told}
+use Rattle.plain.proofs.whole.wholes.Goals.{then-loop-more-test+else-left-ge-LONGEST, else-loop-more-test, then-loop-more-test+then-left-ge-LONGEST+in-Err}
 use Rattle.plain.proofs.whole.wholes.Goals as goal
 
-pub returns-then-left-lt-LONGEST : goal.returns-then-left-lt-LONGEST
-returns-then-left-lt-LONGEST c = left-short c.loop-done.invariant.0 c.if-left-lt-LONGEST.true
+pub loop-more-init : goal.loop-more-init
+loop-more-init c = (left-start _ _ _ c.requires.0 c.requires.1, refl, refl)
 
 pub overflow_sub-left : goal.overflow_sub-left
 overflow_sub-left c =
-    let h = c.if-left-lt-LONGEST.false in
-    omega (arith, h, left-cycles c.loop-done.invariant.0 c.in-Ok.ensures)
+    let h = c.if-left-ge-LONGEST.true in
+    omega (arith, h, c.from-left.ensures, left-cycles c.loop-more.invariant.0 c.in-Ok.ensures.told)
 
-pub returns-in-Err : goal.returns-in-Err
-returns-in-Err c =
-    let l = c.loop-done.invariant.0 in
-    let e = c.in-Err.ensures in
-    rw (step-told _ e) (left-stop l c.loop-done-test.true c.if-left-lt-LONGEST.false (stop-told _ e) (some_number _))
-
-pub loop-done-preserved : goal.loop-done-preserved
-loop-done-preserved c =
-    let l = c.loop-done.invariant.0 in
-    let e = c.in-Ok.ensures in
-    (rw c.from-left.ensures (left_step l c.loop-done-test.true c.if-left-lt-LONGEST.false (stop-told _ e) (cycles-told _ e) (goes-told _ e refl)), search rules)
+pub loop-more-preserved : goal.loop-more-preserved
+loop-more-preserved c =
+    let l = c.loop-more.invariant.0 in
+    let e = c.in-Ok.ensures.told in
+    (rw c.from-left.ensures (left_step l c.loop-more-test.true c.if-left-ge-LONGEST.true (stop-told _ e) (cycles-told _ e) (goes-told _ e refl) (adds-told _ e _ c.in-Ok.ensures.tally)), search rules, c.loop-more.invariant.2)
 
 pub returns : goal.returns
 returns c =
-    let h = c.loop-done-test.false in
-    let all : c.loop-done.done ≡ c.args.count = omega (arith, h, c.loop-done.auto.done-end) in
-    rw all at (left-done c.loop-done.invariant.0 h)
+    let l = c.loop-more.invariant.0 in
+    let none = c.loop-more.invariant.2 in
+    elim c.loop-more-test.branch [
+      | then-loop-more-test+else-left-ge-LONGEST w ↦ rw (w.registers-is, w.memory-is, w.w-is, w.met-is, none) (left-short l w.if-left-ge-LONGEST.false)
+      | else-loop-more-test w ↦ rw (w.registers-is, w.memory-is, w.w-is, w.met-is, none) (left-done l w.loop-more-test.false)
+      | then-loop-more-test+then-left-ge-LONGEST+in-Err w ↦
+          let e = w.in-Err.ensures.told in
+          let at = going c.loop-more.registers c.loop-more.status c.loop-more.here c.args.from.board c.loop-more.memory in
+          let left = stopped-tally at _ (adds-told at e _ w.in-Err.ensures.tally) (λ z. some_number _ (sym (stop-told at e) ∙ z)) in
+          rw (w.registers-is, w.memory-is, w.w-is, w.met-is, left, step-told _ e) (left-stop l w.loop-more-test.true w.if-left-ge-LONGEST.true (stop-told _ e) (some_number _))
+    ]

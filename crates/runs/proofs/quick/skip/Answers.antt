@@ -1,17 +1,22 @@
+use mathlib.Core.Path.{ap, ◌∙◌}
 use native.Mathlib.Omega.{arith}
-use Rattle.runs.proofs.QuickRoad.{came-within, skip-whole, skip-none}
+use Rattle.runs.specs.Boundary.{boundary}
+use Rattle.runs.proofs.QuickRoad.{came-within, tally-within, skip-whole, skip-none}
 use Rattle.runs.proofs.quick.skip.Goals as goal
 
-pub overflow_add-counts : goal.overflow_add-counts
-overflow_add-counts c = record { fits = omega (arith, (came-within _ c.wholes-came.ensures).1, c.requires.0) }
+pub wholes-came-requires : goal.wholes-came-requires
+wholes-came-requires c = (c.default-w.ensures.0, c.default-w.ensures.1, omega (arith, c.requires.2))
 
-pub overflow_add-counts-then-may_skip : goal.overflow_add-counts-then-may_skip
-overflow_add-counts-then-may_skip c = record { fits = omega (arith, (came-within _ c.wholes-came.ensures).0, (came-within _ c.wholes-came.ensures).1, c.requires.0, c.requires.1) }
+pub counts_after-counts-requires : goal.counts_after-counts-requires
+counts_after-counts-requires c =
+    let w = came-within _ c.wholes-came.ensures in
+    let t = tally-within _ _ _ c.wholes-came.ensures in
+    (omega (arith, w.1, c.requires.0), omega (arith, w.0, c.requires.0, c.requires.1), omega (arith, w.1, c.requires.2), omega (arith, w.1, c.requires.2), omega (arith, w.1, c.requires.2), t.0, t.1)
 
 pub returns-then-may_skip : goal.returns-then-may_skip
 returns-then-may_skip c =
     skip-whole _ _ c.may_skip.ensures c.if-may_skip.true (rw c.behind.ensures at c.wholes-came.ensures)
-    (c.control_at-control.ensures _ _)
+    (c.control_at-control.ensures _ _ ∙ ap (boundary _) c.counts_after-counts.ensures)
 
 pub returns : goal.returns
 returns c = skip-none _ _ c.may_skip.ensures c.if-may_skip.false

@@ -6,4 +6,4 @@ pub with_refills-requires : goal.with_refills-requires
 with_refills-requires c = short-as c.block_steps.ensures (block-short c.args.i)
 
 pub returns : goal.returns
-returns c g = block-lasts g _ c.with_refills.ensures c.block_steps.ensures c.bit.ensures
+returns c g = block-lasts g _ c.with_refills.ensures c.block_steps.ensures c.block_stores.ensures

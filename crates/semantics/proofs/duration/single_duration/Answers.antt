@@ -2,4 +2,4 @@ use Rattle.semantics.proofs.WordDurations.{single-lasts}
 use Rattle.semantics.proofs.duration.single_duration.Goals as goal
 
 pub returns : goal.returns
-returns c g = single-lasts g _ c.with_refills.ensures c.single_steps.ensures
+returns c g = single-lasts g _ c.with_refills.ensures c.single_steps.ensures c.single_stores.ensures
