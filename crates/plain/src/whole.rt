@@ -22,7 +22,7 @@ pub fn wholes(
     w: &mut Tally,
 ) -> Came
     requires { (w.old.n ≡ 0) × (w.old.extra ≡ 0) × (budget < 2 ^ 62) }
-    ensures { (came_to result w.new registers.new from.board memory.new ≡ wholes count budget (going registers.old from.flags from.a from.board memory.old)) }
+    ensures { came_to result w.new registers.new from.board memory.new ≡ wholes count budget (going registers.old from.flags from.a from.board memory.old) }
 {
     let mut status = from.flags;
     let mut here = from.a;

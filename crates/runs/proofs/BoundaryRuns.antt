@@ -17,7 +17,8 @@ use Rattle.cycle.proofs.StopFound.{no_stop}
 use Rattle.plain.specs.Running.{ran, one_more, more_by, runs}
 use Rattle.runs.specs.Run.{run_from}
 use Rattle.cycle.specs.declared.Counts.{Counts}
-use Rattle.runs.specs.Boundary.{boundary, counts_on}
+use Rattle.runs.specs.Boundary.{boundary}
+use Rattle.runs.specs.Whole.{counts_on}
 use Rattle.runs.proofs.Flight.{Flight, climb, climb-add, retiring}
 use Rattle.runs.proofs.PlainSteps.{stop_is, flight, duration-flight, instruction, boundary-stop}
 

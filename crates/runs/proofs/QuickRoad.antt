@@ -30,8 +30,8 @@ use Rattle.cycle.specs.declared.Counts.{Counts}
 use Rattle.cycle.specs.Machine.{Machine, machine, most_cycles}
 use Rattle.cycle.specs.StopFound.{is_step1}
 use Rattle.runs.specs.Run.{run_from}
-use Rattle.runs.specs.Boundary.{boundary, counts_on}
-use Rattle.runs.specs.Whole.{Stretch, stretch, longer, same, clear, sized, filled, stands, plainly, reached, skipped, Continues, QuickRoad}
+use Rattle.runs.specs.Boundary.{boundary}
+use Rattle.runs.specs.Whole.{counts_on, Stretch, stretch, longer, same, clear, sized, filled, stands, plainly, reached, skipped, Continues, QuickRoad}
 use Rattle.runs.proofs.PlainSteps.{step_range, step-board}
 use Rattle.runs.proofs.RunLoop.{Left}
 use Rattle.runs.proofs.BoundaryRuns.{whole, duration-positive, stopped-boundary}

@@ -9,9 +9,7 @@ use Rattle.steps.specs.declared.Phase.{Phase}
 use Rattle.steps.specs.declared.Phase.TheVariants.{Step1, Refill1, Refill2, Later}
 use Rattle.steps.specs.Steps.{idle}
 use Rattle.cycle.specs.declared.Counts.{Counts}
-use Rattle.cycle.specs.Machine.{Machine, machine, pipe, counts}
-use Rattle.semantics.specs.declared.Sums.{Sums}
-use Rattle.semantics.specs.Sums.{plus}
+use Rattle.cycle.specs.Machine.{Machine, machine, pipe}
 
 -- the core that stands for a plain machine between instructions, with these counts: about to do step 1 (a boundary, the paper's term)
 unfoldable pub boundary : plain.Machine → Counts → Machine
@@ -27,10 +25,6 @@ boundary p n =
       stop = 0;
       board = p.plain.board;
     }) p.memory
-
--- counts after k more instructions in u more cycles, which add q
-abbrev pub counts_on : ℕ → ℕ → Sums → Counts → Counts
-counts_on u k q n = counts (n.cycles + u) (n.retired + k) (plus n.sums q)
 
 -- the own steps of the word in IX, in the core's refills
 abbrev pub steps_of : Option ℕ → List ℕ → ℕ

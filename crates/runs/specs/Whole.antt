@@ -4,16 +4,17 @@ use Rattle.bits.specs.Choice.{pick}
 use Rattle.datapath.specs.Counter.{ahead, behind, counters}
 use Rattle.memory.specs.Memory.{Memory, memory_of, word_at}
 use Rattle.plain.specs.Machine as plain
-use Rattle.semantics.specs.Sums.{total}
+use Rattle.semantics.specs.declared.Sums.{Sums}
+use Rattle.semantics.specs.Sums.{plus, total}
 use Rattle.cycle.specs.declared.Control.{Control}
 use Rattle.cycle.specs.declared.Counts.{Counts}
 use Rattle.plain.specs.Numbers.{most_bytes}
-use Rattle.cycle.specs.Machine.{Machine, most_cycles}
+use Rattle.cycle.specs.Machine.{Machine, counts, most_cycles}
 use Rattle.cycle.specs.StopFound.{is_step1}
 use Rattle.plain.specs.Running.{more_by}
 use Rattle.plain.specs.Whole.{Wholes, longest, wholes, going}
 use Rattle.runs.specs.Run.{run_from}
-use Rattle.runs.specs.Boundary.{boundary, counts_on}
+use Rattle.runs.specs.Boundary.{boundary}
 
 -- a stretch of a run: the cycles that it used, and where it came to
 pub record Stretch : Type 0 where
@@ -61,6 +62,10 @@ abbrev pub plainly : Machine → plain.Machine
 plainly m =
     let c = m.control in
     going m.registers c.flags (behind c.pipe.pc 8) c.board m.memory
+
+-- counts after k more instructions in u more cycles, which add q
+abbrev pub counts_on : ℕ → ℕ → Sums → Counts → Counts
+counts_on u k q n = counts (n.cycles + u) (n.retired + k) (plus n.sums q)
 
 -- where whole instructions came to from the boundary core with these counts
 abbrev pub reached : Counts → Wholes → Stretch
