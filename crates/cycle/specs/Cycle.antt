@@ -18,7 +18,7 @@ use Rattle.cycle.specs.declared.Counts.{Counts}
 use Rattle.cycle.specs.declared.Control.{Control}
 use Rattle.cycle.specs.Machine.{Machine, machine, lent, pipe, counts}
 
--- a refill with IX blank is the start's; a multiply has none
+-- a refill with IX blank is the start's; no multiply has a refill, so that m is 0
 abbrev pub refilled : Option ℕ → Ended
 refilled None = Start
 refilled (Some w) = Executed 0
@@ -31,7 +31,7 @@ skips pc = Done Skipped
 abbrev pub quiet : Machine → After → Own
 quiet m e = own m.registers (still m.control.flags e) (lent m)
 
--- step 1; the one step of a failed condition does nothing
+-- step 1; the one step of a failed condition does nothing. Where IX is blank no run does this cycle (21), nor a later step (11)
 abbrev pub first_due : Due → Machine → Own
 first_due no_word_there m = quiet m (Done Start)
 first_due skipped m = quiet m (skips m.control.pipe.pc)

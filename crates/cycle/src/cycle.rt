@@ -2,12 +2,17 @@
 ghost use Rattle.std.specs.Prelude.{◌≡◌, List, ℕ, ◌+◌, ◌<◌, ◌^◌};
 ghost use Rattle.bits.specs.Bits.{num};
 ghost use Rattle.memory.specs.Memory.{Memory, memory_of};
-ghost use Rattle.semantics.specs.Sums.{total};
+ghost use Rattle.semantics.specs.Sums.{plus, total};
+ghost use Rattle.steps.specs.declared.Ended.{Ended};
+ghost use Rattle.steps.specs.declared.Ended.TheVariants.{Executed};
+ghost use Rattle.steps.specs.declared.After.TheVariants.{Done};
 ghost use Rattle.steps.specs.Steps.{own};
 ghost use Rattle.cycle.specs.Machine.{machine};
+ghost use Rattle.cycle.specs.Room.{Summable, Countable, InOneStep};
 ghost use Rattle.cycle.specs.Cycle.{fetch, fetches, pipe_after, phase_after, retired_by, ended_sums, sums_after, counts_after, close, cycle};
 
 use crate::own::own;
+use crate::stop::is_step1;
 use crate::{Control, Counts, Pipe};
 use datapath::counter::{ahead, counter};
 use memory::{Board, fetch};
@@ -69,52 +74,69 @@ fn retires(after: After) -> bool
     matches!(after, After::Done(Ended::Skipped | Ended::Executed(_)))
 }
 
-// The sums of what ended, with the word of an instruction that was executed in IX.
-fn sums_of_ended(ended: Ended, ix: Option<u32>) -> Sums
-    ensures sums { result ≡ ended_sums ended ix }
+// What a word adds that was executed in more steps than the first, or in refills.
+fn sums_of_word(m: u32, ix: Option<u32>) -> Sums
+    ensures sums { result ≡ ended_sums (Executed m) ix }
     ensures short { total result < 2 ^ 33 }
 {
+    match ix {
+        Some(word) => sums_of(word, m),
+        None => nsi(0, 0, 0),
+    }
+}
+
+// One that is done in step 1 adds S, whatever its word: that is most of what a call of one cycle retires, and the word need not be read again.
+fn sums_executed(m: u32, phase: Phase, ix: Option<u32>, q: Sums) -> Sums
+    requires { InOneStep phase (Executed m) ix × Summable q }
+    ensures { result ≡ plus q (ended_sums (Executed m) ix) }
+{
+    if is_step1(phase) {
+        nsi(q.n, q.s + 1, q.i)
+    } else {
+        let more = sums_of_word(m, ix);
+        nsi(q.n + more.n, q.s + more.s, q.i + more.i)
+    }
+}
+
+fn sums_ended(ended: Ended, phase: Phase, ix: Option<u32>, q: Sums) -> Sums
+    requires { InOneStep phase ended ix × Summable q }
+    ensures { result ≡ plus q (ended_sums ended ix) }
+{
     match ended {
-        Ended::Start => nsi(1, 1, 0),
-        Ended::Skipped => nsi(0, 1, 0),
-        Ended::Executed(m) => match ix {
-            Some(word) => sums_of(word, m),
-            None => nsi(0, 0, 0),
-        },
+        Ended::Start => nsi(q.n + 1, q.s + 1, q.i),
+        Ended::Skipped => nsi(q.n, q.s + 1, q.i),
+        Ended::Executed(m) => sums_executed(m, phase, ix, q),
     }
 }
 
 // The sums rise where an instruction retires, and where the start ends.
-fn sums_after(after: After, ix: Option<u32>, n: Sums) -> Sums
-    requires { (n.n < 2 ^ 63) × (n.s < 2 ^ 63) × (n.i < 2 ^ 63) }
-    ensures { result ≡ sums_after after ix n }
+fn sums_after(after: After, phase: Phase, ix: Option<u32>, q: Sums) -> Sums
+    requires { ((e : Ended) → after ≡ Done e → InOneStep phase e ix) × Summable q }
+    ensures { result ≡ sums_after after ix q }
 {
     match after {
-        After::Done(ended) => {
-            let more = sums_of_ended(ended, ix);
-            nsi(n.n + more.n, n.s + more.s, n.i + more.i)
-        }
-        _ => n,
+        After::Done(ended) => sums_ended(ended, phase, ix, q),
+        After::More(_) | After::Jump(_) => q,
     }
 }
 
-fn counts_after(after: After, ix: Option<u32>, n: Counts) -> Counts
-    requires { (n.cycles < 2 ^ 63) × (n.retired < 2 ^ 63) × (n.sums.n < 2 ^ 63) × (n.sums.s < 2 ^ 63) × (n.sums.i < 2 ^ 63) }
+fn counts_after(after: After, phase: Phase, ix: Option<u32>, n: Counts) -> Counts
+    requires { ((e : Ended) → after ≡ Done e → InOneStep phase e ix) × Countable n }
     ensures { result ≡ counts_after after ix n }
 {
     Counts {
         cycles: n.cycles + 1,
         retired: n.retired + u64::from(retires(after)),
-        sums: sums_after(after, ix, n.sums),
+        sums: sums_after(after, phase, ix, n.sums),
     }
 }
 
 // The next core: what the cycle did, the pipe after its fetch, and the counts.
 fn close(s: Step, p: Pipe, c: Control) -> Control
-    requires { (c.counts.cycles < 2 ^ 63) × (c.counts.retired < 2 ^ 63) × (c.counts.sums.n < 2 ^ 63) × (c.counts.sums.s < 2 ^ 63) × (c.counts.sums.i < 2 ^ 63) }
+    requires { ((e : Ended) → s.after ≡ Done e → InOneStep c.phase e c.pipe.ix) × Countable c.counts }
     ensures { (g : List ℕ) (mem : Memory) → machine g result mem.bytes ≡ close (own g s mem) p c }
 {
-    let counts = counts_after(s.after, c.pipe.ix, c.counts);
+    let counts = counts_after(s.after, c.phase, c.pipe.ix, c.counts);
     Control {
         flags: s.flags,
         pipe: pipe_after(s.after, p),
@@ -126,7 +148,7 @@ fn close(s: Step, p: Pipe, c: Control) -> Control
 }
 
 pub fn cycle(c: Control, registers: &mut [u32; 15], memory: &mut [u8]) -> Control
-    requires { (c.counts.cycles < 2 ^ 63) × (c.counts.retired < 2 ^ 63) × (c.counts.sums.n < 2 ^ 63) × (c.counts.sums.s < 2 ^ 63) × (c.counts.sums.i < 2 ^ 63) }
+    requires { Countable c.counts }
     ensures { machine registers.new result memory.new ≡ cycle (machine registers.old c memory.old) }
 {
     let p = fetches(c.phase, c.pipe, memory, c.board);

@@ -35,7 +35,7 @@ use Rattle.plain.specs.Running.{Ran, ran, one_more, unless}
 use Rattle.plain.proofs.Running as loops
 use Rattle.runs.specs.Run.{holding, reach, engine, run_from}
 use Rattle.runs.specs.CyclesLeft.{cycles_left}
-use Rattle.pipeline.specs.Term3.{fresh, plain_fresh, Begins, sums, sums_after, sums_at, Stops, Distance, Call, running, settling, lent_to, lend, call, Reply, reply, reply_of, RunAccepted, Accepted, Refused, Calls, no_calls, accepted, refused}
+use Rattle.pipeline.specs.Term3.{fresh, plain_fresh, Begins, sums, sums_there, sums_at, Stops, Distance, Call, running, settling, lent_to, lend, call, Reply, reply, reply_of, RunAccepted, Accepted, Refused, Calls, no_calls, accepted, refused}
 use Rattle.pipeline.specs.Term3.{Answers, other_length, too_many, too_far, repeats, stops, spends, boundary_too_far, settles, AllAnswer, none, more, Never, never_none, never_more}
 use Rattle.pipeline.specs.Term3.{Greatest, Leaves, Further, EndsSettled, at_last, later_on, Follows, Term3}
 use Rattle.runs.specs.Boundary.{boundary, lead}
@@ -45,6 +45,7 @@ use Rattle.runs.proofs.Flight.{Aloft, Flight}
 use Rattle.runs.proofs.PlainSteps.{duration-flight, Stop, stop-met}
 use Rattle.pipeline.proofs.Position.{Pos, advance, beginning, plain_beginning, counts_there, counts_last, last-retired, started, sums-step, sums-timed, ranged}
 use Rattle.runs.proofs.PlainSteps.{boundary-stop}
+use Rattle.runs.proofs.QuickRoad.{boundary-counts}
 use Rattle.pipeline.proofs.Settled.{flight-left, settle-laws}
 
 reach-stop : (m : Machine) (t : ℕ) → (reach m t).control.stop ≡ m.control.stop
@@ -202,12 +203,12 @@ module _ (p : plain.Machine) (m₀ : Machine) (r₀ : p.plain.a < counters) (s�
 
   -- on a boundary, or off it
   view : {t : ℕ} (c : Pos p m₀ r₀ s₀ t)
-      → ((c.n ≡ 0) × (t ≡ sums p c.k) × (reach m₀ t ≡ boundary (trace p c.k) (counts t c.k (sums_after p c.k)))) ⊎ ((0 < c.n) × Aloft (counts_last p c.k) c.u (reach m₀ t))
+      → ((c.n ≡ 0) × (t ≡ sums p c.k) × (reach m₀ t ≡ boundary (trace p c.k) (counts t c.k (sums_there p c.k)))) ⊎ ((0 < c.n) × Aloft (counts_last p c.k) c.u (reach m₀ t))
   view {t} c = go c.n c.total c.flying
     where
       go : (n : ℕ) → t + n ≡ sums p c.k → Flight (counts_last p c.k) c.u n (reach m₀ t) (boundary (trace p c.k) (counts_there p c.k))
-          → ((n ≡ 0) × (t ≡ sums p c.k) × (reach m₀ t ≡ boundary (trace p c.k) (counts t c.k (sums_after p c.k)))) ⊎ ((0 < n) × Aloft (counts_last p c.k) c.u (reach m₀ t))
-      go zero e f = let i : t ≡ sums p c.k = omega arith in inl (refl, i, f ∙ ap (λ u. boundary (trace p c.k) (counts u c.k (sums_after p c.k))) (sym i))
+          → ((n ≡ 0) × (t ≡ sums p c.k) × (reach m₀ t ≡ boundary (trace p c.k) (counts t c.k (sums_there p c.k)))) ⊎ ((0 < n) × Aloft (counts_last p c.k) c.u (reach m₀ t))
+      go zero e f = let i : t ≡ sums p c.k = omega arith in inl (refl, i, f ∙ ap (λ u. boundary (trace p c.k) (counts u c.k (sums_there p c.k))) (sym i))
       go (suc n) e f = inr (omega arith, f.0)
 
   held-here : {t q : ℕ} → Here t q → held_away (reach m₀ t).control.phase q ≡ false
@@ -469,10 +470,6 @@ module _ (p : plain.Machine) (m₀ : Machine) (r₀ : p.plain.a < counters) (s�
 
     -- ---- what is left
 
-    boundary-counts : (m : plain.Machine) (c : Counts) → (boundary m c).control.counts ≡ c
-    unfolding boundary
-    boundary-counts m c = refl
-
     boundary-lead : (m : plain.Machine) (c : Counts) → lead (boundary m c) ≡ 2
     unfolding boundary lead
     boundary-lead m c = refl
@@ -516,7 +513,7 @@ module _ (p : plain.Machine) (m₀ : Machine) (r₀ : p.plain.a < counters) (s�
         (λ v. rw (v.1.sums, v.1.retired) (go c.k refl v.0))
         (view c)
       where
-        go : (k : ℕ) → c.k ≡ k → 0 < c.n → (counts_last p k).sums ≡ pick (ltb t 2) no_sums (sums_after p (counts_last p k).retired)
+        go : (k : ℕ) → c.k ≡ k → 0 < c.n → (counts_last p k).sums ≡ pick (ltb t 2) no_sums (sums_there p (counts_last p k).retired)
         go zero e h = rw (lt-ltb t 2 (omega (arith, rw e at c.total, start-sum)))
         go (suc k) e h = rw (le-ltb t 2 (omega (arith, c.past k e, sums-le k {j = 0} (omega arith), start-sum)))
 
@@ -536,7 +533,7 @@ module _ (p : plain.Machine) (m₀ : Machine) (r₀ : p.plain.a < counters) (s�
       three_sums = three-sums h.pos;
       distance = (h.pos.n, distance-here h, h.pos.bound);
       there = λ k d e. ⊎_elim
-          (λ v. let i : h.pos.k ≡ k = sums-inj h.pos.does d (omega (arith, v.1)) in ap (λ s. holding s q) (v.2 ∙ ap (λ j. boundary (trace p j) (counts t j (sums_after p j))) i))
+          (λ v. let i : h.pos.k ≡ k = sums-inj h.pos.does d (omega (arith, v.1)) in ap (λ s. holding s q) (v.2 ∙ ap (λ j. boundary (trace p j) (counts t j (sums_there p j))) i))
           (λ v. absurd (omega (arith, v.0, h.pos.total, least h.pos k (omega arith))))
           (view h.pos);
       only = λ e. ⊎_elim (λ v. (h.pos.k, h.pos.does, sym v.1)) (λ v. absurd (off-step1 (reach m₀ t).control.phase v.1.off e)) (view h.pos);

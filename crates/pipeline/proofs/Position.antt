@@ -19,7 +19,7 @@ use Rattle.cycle.specs.Cycle.{cycle, own_of}
 use Rattle.cycle.specs.StopFound.{stop_found}
 use Rattle.cycle.specs.Fresh.{fresh_control}
 use Rattle.runs.specs.Run.{reach}
-use Rattle.pipeline.specs.Term3.{sums, sums_after}
+use Rattle.pipeline.specs.Term3.{sums, sums_there}
 use Rattle.runs.specs.Boundary.{boundary, lead}
 use Rattle.runs.proofs.Flight.{Flight, climb, climb-add, turn44}
 use Rattle.runs.proofs.PlainSteps.{boundary-stop, flight, duration-flight, flight-short, instruction, step_range, step-board}
@@ -34,7 +34,7 @@ plain_beginning g flags entry mem = plain.machine (plain.plain g entry flags 0 (
 
 -- the counts on the boundary after k instructions
 abbrev pub counts_there : plain.Machine → ℕ → Counts
-counts_there p k = counts (sums p k) k (sums_after p k)
+counts_there p k = counts (sums p k) k (sums_there p k)
 
 -- those of the last boundary before it; before that of the start they are 0
 abbrev pub counts_last : plain.Machine → ℕ → Counts
@@ -48,7 +48,7 @@ last-retired p (suc k) = refl
 -- the start's two refills
 pub started : (g : List ℕ) (flags entry : ℕ) (mem : List ℕ)
     → Flight (counts 0 0 no_sums) 0 2 (beginning g flags entry mem) (boundary (plain_beginning g flags entry mem) (counts_there (plain_beginning g flags entry mem) 0))
-unfolding cycle own_of boundary lead sums sums_after durations added
+unfolding cycle own_of boundary lead sums sums_there durations added
 started g flags entry mem = (
   record { off = refl; retired = refl; sums = refl; beyond = refl },
   (record { off = refl; retired = refl; sums = refl; beyond = refl }, rw (turn44 entry)),
@@ -58,16 +58,16 @@ pub sums-step : (p : plain.Machine) (k : ℕ) → sums p (suc k) ≡ sums p k + 
 unfolding sums durations
 sums-step p k = omega arith
 
-sums_step : (p : plain.Machine) (k : ℕ) → sums_after p (suc k) ≡ plus (sums_after p k) (adds (trace p k))
-unfolding sums_after added
-sums_step p k = plus-plus start_sums (added p k) (adds (trace p k))
+sums-there-step : (p : plain.Machine) (k : ℕ) → sums_there p (suc k) ≡ plus (sums_there p k) (adds (trace p k))
+unfolding sums_there added
+sums-there-step p k = plus-plus start_sums (added p k) (adds (trace p k))
 
 -- the three sums are the cycles on each boundary
-pub sums-timed : (p : plain.Machine) (k : ℕ) → total (sums_after p k) ≡ sums p k
-unfolding sums_after added sums durations
+pub sums-timed : (p : plain.Machine) (k : ℕ) → total (sums_there p k) ≡ sums p k
+unfolding sums_there added sums durations
 sums-timed p zero = refl
 sums-timed p (suc k) =
-    let before : total (plus start_sums (added p k)) ≡ 2 + durations p k = unfold sums_after sums in sums-timed p k in
+    let before : total (plus start_sums (added p k)) ≡ 2 + durations p k = unfold sums_there sums in sums-timed p k in
     omega (arith, before, adds-timed (trace p k))
 
 module _ (p : plain.Machine) (m₀ : Machine) (range : p.plain.a < counters) (short : p.plain.board.size ≤ most_bytes) where
@@ -112,7 +112,7 @@ module _ (p : plain.Machine) (m₀ : Machine) (range : p.plain.a < counters) (sh
         does = does-more d quiet;
         total = omega arith;
         past = λ j h. let i : j ≡ k = omega arith in rw i (omega arith);
-        flying = rw (f, long, sums_step p k) (instruction (trace p k) (counts_there p k) (ranged k) (shorted k) quiet);
+        flying = rw (f, long, sums-there-step p k) (instruction (trace p k) (counts_there p k) (ranged k) (shorted k) quiet);
         counted = e₂;
         bound = flight-short (trace p k);
         sound = cycle-sound (reach m₀ t) sd e;

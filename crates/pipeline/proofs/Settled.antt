@@ -20,12 +20,12 @@ use Rattle.plain.specs.Running.{Ran, ran, one_more, unless}
 use Rattle.plain.specs.Running as engines
 use Rattle.steps.specs.declared.Phase.{Phase}
 use Rattle.steps.specs.declared.Phase.TheVariants.{Step1, Refill1, Refill2, Later}
-use Rattle.stops.proofs.Both.{or-false}
+use Rattle.semantics.proofs.Both.{or-false}
 use Rattle.cycle.specs.declared.Counts.{Counts}
 use Rattle.cycle.specs.Machine.{Machine}
 use Rattle.cycle.specs.Cycle.{cycle}
 use Rattle.cycle.specs.StopFound.{is_step1}
-use Rattle.cycle.proofs.StopFound.{no_stop}
+use Rattle.cycle.proofs.StopFound.{no_stop, is-step1}
 use Rattle.stops.specs.Stops.{skipped, executes, due}
 use Rattle.refusals.specs.Numbers.{bad_step, bad_phase, bad, refusal}
 use Rattle.refusals.proofs.Refusals.{good, passed}
@@ -40,12 +40,6 @@ use Rattle.runs.proofs.Countdown.{countdown}
 use Rattle.pipeline.proofs.Sound.{to-mid, Sound, cycle-sound}
 
 -- ---- from a sound core
-
-is-step1 : (ph : Phase) → is_step1 ph ≡ true → ph ≡ Step1
-is-step1 Step1 e = refl
-is-step1 Refill1 e = absurd (false≢true e)
-is-step1 Refill2 e = absurd (false≢true e)
-is-step1 (Later k) e = absurd (false≢true e)
 
 off : (m : Machine) → is_step1 m.control.phase ≡ false → m.control.phase ≢ Step1
 off m o e = false≢true (sym o ∙ ap is_step1 e)

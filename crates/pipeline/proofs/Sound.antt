@@ -54,9 +54,9 @@ use Rattle.steps.specs.Steps.{Own, own, ends, still, last, multiply_last, next_t
 use Rattle.cycle.specs.Cycle.{cycle, first_due, own_of, fetches, pipe_after, phase_after, retired_by}
 use Rattle.cycle.specs.StopFound.{is_step1, stop_found}
 use Rattle.refusals.specs.Numbers.{left_to_move, state_later, bad_within, bad_step, never, bad_refill, bad_phase}
-use Rattle.stops.proofs.Both.{or-false}
+use Rattle.semantics.proofs.Both.{or-false}
 use Rattle.pipeline.proofs.Keeps.{own-keeps}
-use Rattle.stops.proofs.Quiet.{Quiet, quietly, names-some}
+use Rattle.semantics.proofs.Quiet.{Quiet, quietly, names-some}
 use Rattle.runs.proofs.Instruction.{extra, own-steps, drop-count}
 
 -- what the test says of step j + 2 of an instruction, in the registers as they stand

@@ -41,12 +41,12 @@ unfoldable pub sums : plain.Machine → ℕ → ℕ
 sums p k = 2 + durations p k
 
 -- the three sums after the plain machine's first k instructions: the start's plus theirs
-unfoldable pub sums_after : plain.Machine → ℕ → Sums
-sums_after p k = plus start_sums (added p k)
+unfoldable pub sums_there : plain.Machine → ℕ → Sums
+sums_there p k = plus start_sums (added p k)
 
 -- at total t, with k instructions retired: the start's are counted when its refill ends
 unfoldable pub sums_at : plain.Machine → ℕ → ℕ → Sums
-sums_at p t k = pick (ltb t 2) no_sums (sums_after p k)
+sums_at p t k = pick (ltb t 2) no_sums (sums_there p k)
 
 -- the plain machine stops with q, and its stop total is t
 pub record Stops (p : plain.Machine) (t q : ℕ) : Type 0 where
@@ -182,8 +182,8 @@ pub record Leaves (p : plain.Machine) (m₀ m : Machine) (t q : ℕ) : Type 0 wh
   pub three_sums : m.control.counts.sums ≡ sums_at p t m.control.counts.retired
   -- never more than 19 cycles from a boundary
   pub distance : (d : ℕ) × Distance p t d × (d ≤ 19)
-  -- a boundary exactly where t is a sum: there registers, flags, PC less 8, memory and the three sums are the plain machine's
-  pub there : (k : ℕ) → Does p k → sums p k ≡ t → m ≡ holding (boundary (trace p k) (counts t k (sums_after p k))) q
+  -- a boundary exactly where t is a sum: there registers, flags, PC less 8 and memory are the plain machine's, and the three sums the start's with its instructions'
+  pub there : (k : ℕ) → Does p k → sums p k ≡ t → m ≡ holding (boundary (trace p k) (counts t k (sums_there p k))) q
   pub only : m.control.phase ≡ Step1 → (k : ℕ) × Does p k × (sums p k ≡ t)
   -- where N+S+I equals the cycles
   pub timed : m.control.phase ≡ Step1 → total m.control.counts.sums ≡ t

@@ -1,6 +1,6 @@
 -- Whole instructions: what the loop over them keeps, and that a run of the plain machine is nothing else.
 -- Assumes nothing.
-use Prim.Native.Nat.{ℕ, zero, suc, ◌+◌, ◌-◌, ◌*◌, ◌^◌, ◌≤◌, ◌<◌}
+use Prim.Native.Nat.{ℕ, zero, suc, ◌+◌, ◌-◌, ◌*◌, ◌≤◌, ◌<◌}
 use mathlib.Core.Logic.{◌≢◌}
 use mathlib.Core.Path.{◌≡◌, refl, sym, ap, ◌∙◌}
 use mathlib.Core.List.{List}
@@ -194,10 +194,6 @@ left-start count budget m n e =
     }
 
 module _ {count budget : ℕ} {r : Wholes} {more left : ℕ} {w : Tally} {m : Machine} (l : Left count budget r more left w m) where
-  -- room for what an instruction raises
-  pub left-room : budget < 2 ^ 62 → (w.n < 2 ^ 62) × (w.extra < 2 ^ 62)
-  left-room h = (omega (arith, l.tells.n, l.tells.cycles), omega (arith, l.tells.accesses, l.tells.cycles))
-
   -- what the loop hands back where it ends, with the stop met
   abbrev pub handed : ℕ → Machine → Wholes
   handed q k = wholes_of (count - more) (budget - left) (told_by w (count - more) (budget - left)) q k

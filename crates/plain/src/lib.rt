@@ -100,7 +100,7 @@ impl Plain {
             a: self.a,
             board: self.board,
         };
-        // The sums of a plain run are nobody's.
+        // Nobody asks for the sums of a plain run.
         let mut w = Tally::default();
         let came = wholes(
             &mut self.registers,

@@ -13,7 +13,7 @@ use Rattle.semantics.specs.Duration.{own_steps}
 use Rattle.semantics.proofs.Durations.{steps-short}
 use Rattle.steps.specs.declared.Phase.{Phase}
 use Rattle.steps.specs.declared.Phase.TheVariants.{Later}
-use Rattle.stops.proofs.Both.{or-false}
+use Rattle.semantics.proofs.Both.{or-false}
 use Rattle.cycle.specs.Machine.{Machine}
 use Rattle.refusals.specs.Numbers.{state_later, bad_within, bad_step, bad_phase, bad}
 use Rattle.refusals.proofs.Refusals.{good}

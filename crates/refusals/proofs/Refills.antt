@@ -26,6 +26,10 @@ kept (Err rule) e q = e ∙ flip (eqb (number_of_rule rule) 0) (numbered rule) �
     flip true h = sym h
     flip false h = refl
 
+none : (b : Bool) → false ≡ (b && false)
+none true = refl
+none false = refl
+
 module _ (s : State) where
   pub read-stores : {i j : Instruction} {r : Bool} → i ≡ j → r ≡ can_store i s → r ≡ can_store j s
   read-stores e q = q ∙ ap (λ (x : Instruction). can_store x s) e
@@ -35,16 +39,9 @@ module _ (s : State) where
 
   -- neither a multiply nor an Other does
   pub stores-none : {i j : Instruction} → ((m : Multiply) × i ≡ Instruction.Multiply m) ⊎ ((w : ℕ) × i ≡ Instruction.Other w) → i ≡ j → false ≡ can_store j s
-  stores-none (inl (m, e)) r = read-stores (sym e ∙ r) (unfold stores_counter in none (eqb (rule_broken (Instruction.Multiply m) s) 0))
-    where
-      none : (b : Bool) → false ≡ (b && false)
-      none true = refl
-      none false = refl
-  stores-none (inr (w, e)) r = read-stores (sym e ∙ r) (unfold stores_counter in none (eqb (rule_broken (Instruction.Other w) s) 0))
-    where
-      none : (b : Bool) → false ≡ (b && false)
-      none true = refl
-      none false = refl
+  unfolding stores_counter
+  stores-none (inl (m, e)) r = read-stores (sym e ∙ r) (none (eqb (rule_broken (Instruction.Multiply m) s) 0))
+  stores-none (inr (w, e)) r = read-stores (sym e ∙ r) (none (eqb (rule_broken (Instruction.Other w) s) 0))
 
   pub branch-stores : (i : Branch) → true ≡ can_store (Instruction.Branch i) s
   unfolding rule_broken stores_counter

@@ -58,7 +58,7 @@ never = 15
 abbrev pub can_store_counter : ℕ → State → Bool
 can_store_counter w s = not (eqb (field w 28 4) never) && can_store (read_of w) s
 
--- a refill of a word that can't store the counter; of no word it is the start's
+-- a refill of a word that can't store the counter; of no word it is the start's. The rules of 23 take a state, and go by none of it
 abbrev pub bad_refill : Option ℕ → Machine → Bool
 bad_refill None m = false
 bad_refill (Some w) m = not (can_store_counter w (state_later m))

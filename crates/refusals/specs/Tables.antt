@@ -77,13 +77,13 @@ abbrev pub multiply_by : ℕ → Option ℕ
 multiply_by rs = Some (0xE00A0093 + 256 * rs)
 
 -- words for a refill: a branch, MOV R15, LDR R15, LDMIA of R15, and each on a condition that fails
-abbrev pub can_store : List (Option ℕ)
-can_store =
+abbrev pub storing : List (Option ℕ)
+storing =
     Some 0xEA000000 ∷ Some 0xE1A0F001 ∷ shift_counter ∷ Some 0xE595F000 ∷ Some 0xE8978000 ∷ Some 0x0A000000 ∷ Some 0x01A0F001 ∷ Some 0x0595F000
     ∷ Some 0x08978000 ∷ []
 
-abbrev pub cannot_store : List (Option ℕ)
-cannot_store =
+abbrev pub not_storing : List (Option ℕ)
+not_storing =
     Some 0xEF000000 ∷ shift ∷ load ∷ store ∷ Some 0xE585F000 ∷ block_load ∷ Some 0xE8878000 ∷ Some 0xE151F002 ∷ multiply_by 0
     ∷ Some 0xFA000000 ∷ Some 0xF1A0F001 ∷ Some 0xE1A0FF12 ∷ Some 0xE5D5F000 ∷ Some 0xE8D78000 ∷ []
 
@@ -112,8 +112,8 @@ pub record BadRecords : Type 0 where
       (shift ∷ load ∷ store ∷ block_load ∷ block_store ∷ multiply_by 0 ∷ [])
   -- a refill of a word that can't store the counter: by its class and fields (an Other; a register loaded, R15 stored; CMP with Rd = 15; multiply); for its
   -- condition is never; for it meets 23 (MOV R15 by R15; a byte into R15; block with S). Of one that can, whatever the flags are now; of none it is the start's
-  pub refill_1 : Tells (λ ix. under ix Refill1 0 0) cannot_store (None ∷ can_store)
-  pub refill_2 : Tells (λ ix. under ix Refill2 0 0) cannot_store (None ∷ can_store)
+  pub refill_1 : Tells (λ ix. under ix Refill1 0 0) not_storing (None ∷ storing)
+  pub refill_2 : Tells (λ ix. under ix Refill2 0 0) not_storing (None ∷ storing)
   -- or lacks that step
   pub one_step : Tells (λ ix. under ix (Later 0) 0 0) (Some 0xE1A01002 ∷ Some 0xEA000000 ∷ []) []
   pub shift_steps : Tells (λ k. under shift (Later k) 0 0) (1 ∷ []) (0 ∷ [])

@@ -29,7 +29,7 @@ one-run image accepts =
     accepted {t = 0} {c = running image budget} (record { lent = refl; small = omega arith; near = omega arith }) same no_calls in
     term3.lists (replicate 15 0) 0 0 image accepts (running image budget ∷ []) (reply_of (run_of image) ∷ []) (run_of image).machine (0 + (run_of image).used) calls
 
--- so the sums that are told do not pass the cycles
+-- so the sums that are told are far from 2^64, being no more than the cycles
 pub told-sums : (image : List ℕ) (b : Started Core) → b ≡ begun image → b.answer ≡ 0
     → (r : Ran Machine) → r ≡ run (length image) budget (machine b.machine.registers b.machine.control image) → total r.machine.control.counts.sums < 2 ^ 62
 unfolding begun fresh

@@ -16,7 +16,7 @@ use Rattle.transfer.specs.Single.{stored_value, stored_to}
 use Rattle.transfer.specs.Block.{stores, stores_all, next}
 use Rattle.stops.specs.Moves.{span}
 use Rattle.stops.specs.Stops.{hits}
-use Rattle.stops.proofs.Both.{or-false}
+use Rattle.semantics.proofs.Both.{or-false}
 
 word_kept : (s : Memory) (b v c : ℕ) → eqb (place s.board b / 4) (place s.board c / 4) ≡ false → word_at s c ≡ word_at (write_word s b v) c
 word_kept s b v c h = sym (word-at-other s b c v (eqb-false (place s.board b / 4) (place s.board c / 4) h))

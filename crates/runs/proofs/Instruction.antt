@@ -36,7 +36,7 @@ use Rattle.semantics.specs.Effect.{Effect, effect, effect_of, load_effect, store
 use Rattle.semantics.specs.Duration.{own_steps, refills, next_address}
 use Rattle.stops.specs.Moves.{moves_from, moves_of, addresses, stored_by, span}
 use Rattle.stops.specs.Stops.{Due, no_word_there, skipped, executes, due, outside, hits, stop_for}
-use Rattle.stops.proofs.Quiet.{Quiet, quietly, names-some}
+use Rattle.semantics.proofs.Quiet.{Quiet, quietly, names-some}
 use Rattle.stops.proofs.StopOrder.{from-span}
 use Rattle.stops.proofs.Spans.{last_decides}
 use Rattle.datapath.proofs.Counters.{behind-ahead}

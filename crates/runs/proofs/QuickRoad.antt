@@ -19,9 +19,7 @@ use Rattle.plain.specs.Numbers.{most_bytes}
 use Rattle.plain.specs.Running.{ran, more_by}
 use Rattle.plain.specs.Whole.{Wholes, wholes_of, none_done, longest, wholes}
 use Rattle.plain.proofs.WholeSteps.{duration-short, met, within-budgets, adds-timed, wholes-timed, plus-none, plus-plus}
-use Rattle.steps.specs.declared.Phase.{Phase}
-use Rattle.steps.specs.declared.Phase.TheVariants.{Step1, Refill1, Refill2, Later}
-use Rattle.stops.proofs.Both.{and-true}
+use Rattle.semantics.proofs.Both.{and-true}
 use Rattle.semantics.specs.declared.Tally.{Tally}
 use Rattle.semantics.specs.Sums.{no_sums, total}
 use Rattle.semantics.specs.Tally.{told_by}
@@ -29,6 +27,7 @@ use Rattle.cycle.specs.declared.Control.{Control}
 use Rattle.cycle.specs.declared.Counts.{Counts}
 use Rattle.cycle.specs.Machine.{Machine, machine, most_cycles}
 use Rattle.cycle.specs.StopFound.{is_step1}
+use Rattle.cycle.proofs.StopFound.{is-step1}
 use Rattle.runs.specs.Run.{run_from}
 use Rattle.runs.specs.Boundary.{boundary}
 use Rattle.runs.specs.Whole.{counts_on, Stretch, stretch, longer, same, clear, sized, filled, stands, plainly, reached, skipped, Continues, QuickRoad}
@@ -68,12 +67,12 @@ continues-both b u m₀ m s o p =
 
 -- ---- whole instructions
 
-counts-there : (p : plain.Machine) (c : Counts) → (boundary p c).control.counts ≡ c
+pub boundary-counts : (p : plain.Machine) (c : Counts) → (boundary p c).control.counts ≡ c
 unfolding boundary
-counts-there p c = refl
+boundary-counts p c = refl
 
 at-boundary : (b : ℕ) (p : plain.Machine) (c : Counts) → c.cycles + b ≤ most_cycles → c.retired ≤ c.cycles → Continues b (boundary p c) (stretch 0 (boundary p c))
-at-boundary b p c h i = continues-start b (boundary p c) (rw (counts-there p c) h) (rw (counts-there p c) i)
+at-boundary b p c h i = continues-start b (boundary p c) (rw (boundary-counts p c) h) (rw (boundary-counts p c) i)
 
 -- none, or one that meets a stop: it still stands there
 stays : (b : ℕ) (p : plain.Machine) (c : Counts) {e : Machine} → e ≡ boundary p c → c.cycles + b ≤ most_cycles → c.retired ≤ c.cycles → Continues b (boundary p c) (stretch 0 e)
@@ -108,8 +107,8 @@ continues-wholes (suc n) b p c r l h i =
         let fits : duration p ≤ b = omega (arith, duration-short p) in
         let d = duration-positive p e in
         let sum : b ≡ duration p + (b - duration p) = omega arith in
-        let there = counts-there (plain.step p) on in
-        let from = counts-there p c in
+        let there = boundary-counts (plain.step p) on in
+        let from = boundary-counts p c in
         let one : Continues b (boundary p c) (stretch (duration p) next) = record {
           within = fits;
           goes = ap (λ x. run_from x (boundary p c)) sum ∙ whole p c (b - duration p) r l e;
@@ -126,12 +125,6 @@ continues-wholes (suc n) b p c r l h i =
     by-room true e o = by-stop (stop_met p) refl (leb-true longest b e) o
 
 -- ---- where whole instructions may begin
-
-is-step1 : (ph : Phase) → is_step1 ph ≡ true → ph ≡ Step1
-is-step1 Step1 e = refl
-is-step1 Refill1 e = cc
-is-step1 Refill2 e = cc
-is-step1 (Later k) e = cc
 
 are-same : (x y : Option ℕ) → same x y ≡ true → x ≡ y
 are-same (Some v) (Some w) e = ap Some (eqb-true v w e)

@@ -2,11 +2,11 @@
 ghost use Rattle.std.specs.Prelude.{◌≡◌, ◌&&◌, List, ℕ, ◌+◌, ◌≤◌, ◌<◌, ◌^◌, leb};
 ghost use Rattle.plain.specs.Machine as plain;
 ghost use Rattle.plain.specs.Whole.{longest};
-ghost use Rattle.cycle.specs.Machine.{machine, counts, most_cycles};
-ghost use Rattle.semantics.specs.Sums.{plus, total};
+ghost use Rattle.cycle.specs.Machine.{machine, most_cycles};
+ghost use Rattle.semantics.specs.Sums.{total};
 ghost use Rattle.semantics.specs.Tally.{told_by};
 ghost use Rattle.runs.specs.Boundary.{boundary};
-ghost use Rattle.runs.specs.Whole.{stretch, same, stands, skipped};
+ghost use Rattle.runs.specs.Whole.{stretch, same, stands, counts_on, skipped};
 
 use crate::Advanced;
 use cycle::stop::is_step1;
@@ -72,9 +72,9 @@ fn control_at(c: Context, counts: Counts, memory: &[u8]) -> Control
 }
 
 // The counts after whole instructions: each has one access of its own, and what is no access is internal.
-fn counts_after(n: Counts, came: Came, w: Tally) -> Counts
+fn counts_on(n: Counts, came: Came, w: Tally) -> Counts
     requires { (n.cycles + came.used < 2 ^ 63) × (n.retired + came.done < 2 ^ 63) × (n.sums.n + came.used < 2 ^ 63) × (n.sums.s + came.used < 2 ^ 63) × (n.sums.i + came.used < 2 ^ 63) × (w.n ≤ came.done + w.extra) × (came.done + w.extra ≤ came.used) }
-    ensures { result ≡ counts (n.cycles + came.used) (n.retired + came.done) (plus n.sums (told_by w came.done came.used)) }
+    ensures { result ≡ counts_on came.used came.done (told_by w came.done came.used) n }
 {
     let accesses = came.done + w.extra;
     let sums = Sums {
@@ -102,7 +102,7 @@ pub fn skip(c: Control, registers: &mut [u32; 15], memory: &mut [u8], budget: u6
         };
         let mut w = Tally::default();
         let came = wholes(registers, memory, from, budget, budget, &mut w);
-        let counts = counts_after(c.counts, came, w);
+        let counts = counts_on(c.counts, came, w);
         let to = Context {
             flags: came.flags,
             a: came.a,

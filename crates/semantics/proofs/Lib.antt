@@ -12,3 +12,5 @@ pub mod Tallies
 pub mod WordSums
 pub mod MarkedSums
 pub mod SumLaws
+pub mod Both
+pub mod Quiet

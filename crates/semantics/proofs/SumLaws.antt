@@ -10,7 +10,7 @@ use Rattle.processing.specs.Processing.{by_register?}
 use Rattle.transfer.specs.Block.{count}
 use Rattle.registers.specs.State.{State}
 use Rattle.stops.specs.Stops.{Due, no_word_there, skipped, executes, due, stop_of}
-use Rattle.stops.proofs.Quiet.{quietly, names-some}
+use Rattle.semantics.proofs.Quiet.{quietly, names-some}
 use Rattle.semantics.specs.declared.Sums.{Sums}
 use Rattle.semantics.specs.Duration.{own_steps, stores_counter, duration_of}
 use Rattle.semantics.specs.Perform.{executed, performed_due, performs}

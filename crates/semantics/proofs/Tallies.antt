@@ -21,7 +21,7 @@ use Rattle.multiply.specs.InternalCycles.{m_of}
 use Rattle.transfer.specs.Single as single
 use Rattle.transfer.specs.Block as block
 use Rattle.stops.specs.Stops.{due, stop_of}
-use Rattle.stops.proofs.Quiet.{quietly, names-some}
+use Rattle.semantics.proofs.Quiet.{quietly, names-some}
 use Rattle.semantics.specs.declared.Tally.{Tally}
 use Rattle.semantics.specs.declared.Sums.{Sums}
 use Rattle.semantics.specs.Branch.{branched}

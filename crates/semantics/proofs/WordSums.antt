@@ -1,8 +1,6 @@
 -- What the functions of `kinds` join: the sums of a word's instruction are those of what it reads as. Assumes nothing.
 use Rattle.std.proofs.Common.{◌≡◌, ℕ, ◌+◌, ◌≤◌, ◌<◌, ◌^◌, Bool, true, false, ap, ◌∙◌, arith}
 use Rattle.bits.specs.Choice.{pick}
-use Rattle.word.specs.declared.Processing.{Processing}
-use Rattle.word.specs.declared.Single.{Single}
 use Rattle.word.specs.declared.Block.{Block}
 use Rattle.word.specs.declared.Branch.{Branch}
 use Rattle.word.specs.declared.Multiply.{Multiply}
@@ -12,7 +10,7 @@ use Rattle.transfer.specs.Block.{count}
 use Rattle.transfer.proofs.NamedRegisters.{named-length}
 use Rattle.semantics.specs.declared.Sums.{Sums}
 use Rattle.semantics.specs.Duration.{stores_counter}
-use Rattle.semantics.specs.Sums.{plus, total, no_sums, processed_sums, shifted_sums, load_sums, store_sums, block_load_sums, block_store_sums, refill_sums, processing_sums, single_sums, block_sums, branch_sums, multiply_sums, with_counter, sums_of}
+use Rattle.semantics.specs.Sums.{plus, total, processed_sums, shifted_sums, load_sums, store_sums, block_load_sums, block_store_sums, refill_sums, processing_sums, single_sums, block_sums, branch_sums, multiply_sums, with_counter, sums_of}
 
 pub block-short : (i : Block) → total (block_sums i) ≤ 20
 block-short i = go i.l
@@ -53,22 +51,9 @@ sums-short (Instruction.Other w) m = omega arith
 pub fits-by : {r : Sums} (i : Instruction) (m : ℕ) → r ≡ sums_of i m → m < 2 ^ 32 → total r < 2 ^ 33
 fits-by i m e h = rw e (omega (arith, sums-short i m))
 
--- of its parts, by class
-module _ {r own : Sums} {b : Bool} where
-  pub processing-adds : (i : Processing) (m : ℕ) → r ≡ pick b (plus own refill_sums) own → own ≡ processing_sums i → b ≡ stores_counter (Instruction.Processing i)
-      → r ≡ sums_of (Instruction.Processing i) m
-  unfolding sums_of
-  processing-adds i m e s t = e ∙ rw (s, t)
-
-  pub single-adds : (i : Single) (m : ℕ) → r ≡ pick b (plus own refill_sums) own → own ≡ single_sums i → b ≡ stores_counter (Instruction.Single i)
-      → r ≡ sums_of (Instruction.Single i) m
-  unfolding sums_of
-  single-adds i m e s t = e ∙ rw (s, t)
-
-  pub block-adds : (i : Block) (m : ℕ) → r ≡ pick b (plus own refill_sums) own → own ≡ block_sums i → b ≡ stores_counter (Instruction.Block i)
-      → r ≡ sums_of (Instruction.Block i) m
-  unfolding sums_of
-  block-adds i m e s t = e ∙ rw (s, t)
+-- of its parts
+pub adds-with : (i : Instruction) {r own q : Sums} {b : Bool} → r ≡ pick b (plus own refill_sums) own → own ≡ q → b ≡ stores_counter i → r ≡ with_counter i q
+adds-with i e s t = e ∙ rw (s, t)
 
 module _ {r : Sums} where
   pub read-adds : (m : ℕ) {i j : Instruction} → i ≡ j → r ≡ sums_of i m → r ≡ sums_of j m
@@ -82,6 +67,6 @@ module _ {r : Sums} where
   unfolding sums_of
   multiply-adds i m e = e
 
-  pub other-adds : (w m : ℕ) → r ≡ no_sums → r ≡ sums_of (Instruction.Other w) m
+  pub other-adds : (w m : ℕ) → r ≡ processed_sums → r ≡ sums_of (Instruction.Other w) m
   unfolding sums_of
   other-adds w m e = e

@@ -93,14 +93,14 @@ block_sums i = pick i.l (block_load_sums (count i)) (block_store_sums (count i))
 abbrev pub with_counter : Instruction → Sums → Sums
 with_counter i own = pick (stores_counter i) (plus own refill_sums) own
 
--- of one that is executed; m is a multiply's. An Other is never done
+-- of one that is executed; m is a multiply's. An Other, which is never done, has one step
 unfoldable pub sums_of : Instruction → ℕ → Sums
 sums_of (Instruction.Processing i) m = with_counter (Instruction.Processing i) (processing_sums i)
 sums_of (Instruction.Single i) m = with_counter (Instruction.Single i) (single_sums i)
 sums_of (Instruction.Block i) m = with_counter (Instruction.Block i) (block_sums i)
 sums_of (Instruction.Branch i) m = branch_sums
 sums_of (Instruction.Multiply i) m = multiply_sums m
-sums_of (Instruction.Other word) m = no_sums
+sums_of (Instruction.Other word) m = processed_sums
 
 -- ---- in a state
 

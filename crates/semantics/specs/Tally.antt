@@ -1,11 +1,15 @@
 -- The two counts that whole instructions raise as they go, and the sums that they tell.
-use Rattle.std.specs.Prelude.{ℕ, ◌+◌, ◌-◌, Option, Some, None}
+use Rattle.std.specs.Prelude.{ℕ, ◌+◌, ◌-◌, ◌^◌, ◌<◌, Option, Some, None}
 use Rattle.semantics.specs.declared.Tally.{Tally}
 use Rattle.semantics.specs.declared.Sums.{Sums}
 use Rattle.semantics.specs.Sums.{nsi}
 
 abbrev pub tally : ℕ → ℕ → Tally
 tally n extra = record { n = n; extra = extra }
+
+-- room for what an instruction raises, and its refills after it
+abbrev pub Roomy : Tally → Type 0
+Roomy w = (w.n < 2 ^ 62) × (w.extra < 2 ^ 62)
 
 -- N, and the accesses beyond the one that each instruction has
 abbrev pub raised : Tally → Sums → Tally

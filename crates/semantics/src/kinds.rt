@@ -86,6 +86,6 @@ pub fn sums_of(word: u32, m: u32) -> Sums
         Instruction::Block(i) => of_block(i),
         Instruction::Branch(_) => nsi(1, 2, 0),
         Instruction::Multiply(_) => nsi(0, 1, u64::from(m)),
-        Instruction::Other(_) => nsi(0, 0, 0),
+        Instruction::Other(_) => nsi(0, 1, 0),
     }
 }

@@ -6,7 +6,7 @@ pub mod duration;
 pub mod kinds;
 pub mod own_steps;
 pub mod perform;
-pub mod raise;
+mod raise;
 pub mod stores;
 
 // What came of an instruction that is done, beside registers and memory: the flags; the address of the next instruction; the cycles taken.
@@ -25,8 +25,8 @@ pub struct Sums {
     pub i: u64,
 }
 
-// What whole instructions count as they go: their non-sequential accesses, and those beyond the one access that each has. With it
-// processing and multiplies, which are most of what runs, count nothing.
+// What whole instructions count as they go: non-sequential accesses, and the accesses beyond the one that each has. So processing that
+// stores no counter, and multiplies, most of what runs, count nothing.
 #[derive(Clone, Copy, Default)]
 pub struct Tally {
     pub n: u64,

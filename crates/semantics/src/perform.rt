@@ -13,7 +13,7 @@ ghost use Rattle.semantics.specs.Duration.{single_steps, block_steps, refills, n
 ghost use Rattle.semantics.specs.Perform.{result_of, performed, done, executed, performs};
 ghost use Rattle.semantics.specs.Told.{done_by, told};
 ghost use Rattle.semantics.specs.Sums.{load_sums, store_sums, block_load_sums, executed_sums, performs_sums};
-ghost use Rattle.semantics.specs.Tally.{tally, raised, with_refills};
+ghost use Rattle.semantics.specs.Tally.{Roomy, tally, raised, with_refills};
 
 use crate::branch::branch;
 use crate::own_steps::{
@@ -72,7 +72,7 @@ fn perform_processing(
     c: Context,
     w: &mut Tally,
 ) -> Result<Performed, Stop>
-    requires { (w.old.n < 2 ^ 62) × (w.old.extra < 2 ^ 62) }
+    requires { Roomy w.old }
     ensures told { (mem : Memory) → result_of (told c.flags c.a result) registers.new mem ≡ executed (Instruction.Processing i) (state registers.old c.flags c.a mem) }
     ensures tally { (mem : Memory) → w.new ≡ raised w.old (executed_sums (Instruction.Processing i) (state registers.old c.flags c.a mem)) }
 {
@@ -112,7 +112,7 @@ fn load(
     c: Context,
     w: &mut Tally,
 ) -> Performed
-    requires { (at.base ≡ changed_base i registers.old c.flags (ahead c.a 8)) × (at.address ≡ address_of i registers.old c.flags (ahead c.a 8)) × (w.old.n < 2 ^ 62) × (w.old.extra < 2 ^ 62) }
+    requires { (at.base ≡ changed_base i registers.old c.flags (ahead c.a 8)) × (at.address ≡ address_of i registers.old c.flags (ahead c.a 8)) × Roomy w.old }
     ensures told { result_of (done_by result) registers.new (memory_of c.board memory.now) ≡ done (state_in c registers.old memory.now) (single_steps i) (load_effect i (state_in c registers.old memory.now)) }
     ensures tally { w.new ≡ with_refills (raised w.old load_sums) (load_effect i (state_in c registers.old memory.now)).out.goes }
 {
@@ -132,7 +132,7 @@ fn store(
     c: Context,
     w: &mut Tally,
 ) -> Performed
-    requires { (at.base ≡ changed_base i registers.old c.flags (ahead c.a 8)) × (at.address ≡ address_of i registers.old c.flags (ahead c.a 8)) × (w.old.n < 2 ^ 62) × (w.old.extra < 2 ^ 62) }
+    requires { (at.base ≡ changed_base i registers.old c.flags (ahead c.a 8)) × (at.address ≡ address_of i registers.old c.flags (ahead c.a 8)) × Roomy w.old }
     ensures told { result_of (done_by result) registers.new (memory_of c.board memory.new) ≡ done (state_in c registers.old memory.old) (single_steps i) (store_effect i (state_in c registers.old memory.old)) }
     ensures tally { w.new ≡ raised w.old store_sums }
 {
@@ -150,7 +150,7 @@ fn perform_single(
     c: Context,
     w: &mut Tally,
 ) -> Result<Performed, Stop>
-    requires { (w.old.n < 2 ^ 62) × (w.old.extra < 2 ^ 62) }
+    requires { Roomy w.old }
     ensures told { result_of (told c.flags c.a result) registers.new (memory_of c.board memory.new) ≡ executed (Instruction.Single i) (state_in c registers.old memory.old) }
     ensures tally { w.new ≡ raised w.old (executed_sums (Instruction.Single i) (state_in c registers.old memory.old)) }
 {
@@ -192,7 +192,7 @@ fn load_block(
     c: Context,
     w: &mut Tally,
 ) -> Performed
-    requires { (w.old.n < 2 ^ 62) × (w.old.extra < 2 ^ 62) }
+    requires { Roomy w.old }
     ensures told { result_of (done_by result) registers.new (memory_of c.board memory.now) ≡ done (state_in c registers.old memory.now) (block_steps i) (block_load_effect i (state_in c registers.old memory.now)) }
     ensures tally { w.new ≡ with_refills (raised w.old (block_load_sums (count i))) (block_load_effect i (state_in c registers.old memory.now)).out.goes }
 {
@@ -212,7 +212,7 @@ fn store_block(
     c: Context,
     w: &mut Tally,
 ) -> Performed
-    requires { (w.old.n < 2 ^ 62) × (w.old.extra < 2 ^ 62) }
+    requires { Roomy w.old }
     ensures told { result_of (done_by result) registers.new (memory_of c.board memory.new) ≡ done (state_in c registers.old memory.old) (block_steps i) (block_store_effect i (state_in c registers.old memory.old)) }
     ensures tally { w.new ≡ tally (w.old.n + 2) (w.old.extra + count i) }
 {
@@ -228,7 +228,7 @@ fn perform_block(
     c: Context,
     w: &mut Tally,
 ) -> Result<Performed, Stop>
-    requires { (w.old.n < 2 ^ 62) × (w.old.extra < 2 ^ 62) }
+    requires { Roomy w.old }
     ensures told { result_of (told c.flags c.a result) registers.new (memory_of c.board memory.new) ≡ executed (Instruction.Block i) (state_in c registers.old memory.old) }
     ensures tally { w.new ≡ raised w.old (executed_sums (Instruction.Block i) (state_in c registers.old memory.old)) }
 {
@@ -246,7 +246,7 @@ fn perform_branch(
     c: Context,
     w: &mut Tally,
 ) -> Result<Performed, Stop>
-    requires { (w.old.n < 2 ^ 62) × (w.old.extra < 2 ^ 62) }
+    requires { Roomy w.old }
     ensures told { (mem : Memory) → result_of (told c.flags c.a result) registers.new mem ≡ executed (Instruction.Branch i) (state registers.old c.flags c.a mem) }
     ensures tally { (mem : Memory) → w.new ≡ raised w.old (executed_sums (Instruction.Branch i) (state registers.old c.flags c.a mem)) }
 {
@@ -271,7 +271,7 @@ fn execute(
     c: Context,
     w: &mut Tally,
 ) -> Result<Performed, Stop>
-    requires { (w.old.n < 2 ^ 62) × (w.old.extra < 2 ^ 62) }
+    requires { Roomy w.old }
     ensures told { result_of (told c.flags c.a result) registers.new (memory_of c.board memory.new) ≡ executed (read_of word) (state_in c registers.old memory.old) }
     ensures tally { w.new ≡ raised w.old (executed_sums (read_of word) (state_in c registers.old memory.old)) }
 {
@@ -293,7 +293,7 @@ fn perform(
     c: Context,
     w: &mut Tally,
 ) -> Result<Performed, Stop>
-    requires { (w.old.n < 2 ^ 62) × (w.old.extra < 2 ^ 62) }
+    requires { Roomy w.old }
     ensures told { result_of (told c.flags c.a result) registers.new (memory_of c.board memory.new) ≡ performs (Some word) (state_in c registers.old memory.old) }
     ensures tally { w.new ≡ raised w.old (performs_sums (Some word) (state_in c registers.old memory.old)) }
 {
@@ -311,7 +311,7 @@ pub fn perform_at(
     c: Context,
     w: &mut Tally,
 ) -> Result<Performed, Stop>
-    requires { (w.old.n < 2 ^ 62) × (w.old.extra < 2 ^ 62) }
+    requires { Roomy w.old }
     ensures told { result_of (told c.flags c.a result) registers.new (memory_of c.board memory.new) ≡ performs (word_at (memory_of c.board memory.old) c.a) (state_in c registers.old memory.old) }
     ensures tally { w.new ≡ raised w.old (performs_sums (word_at (memory_of c.board memory.old) c.a) (state_in c registers.old memory.old)) }
 {

@@ -5,5 +5,3 @@ pub mod StopOrder
 pub mod HiddenStops
 pub mod Joins
 pub mod Numbers
-pub mod Both
-pub mod Quiet

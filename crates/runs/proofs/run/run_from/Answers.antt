@@ -22,7 +22,7 @@ returns-in-Err c =
 pub cycle-at-requires : goal.cycle-at-requires
 cycle-at-requires c =
     let l = left-skip c.loop-used.invariant.0 c.skip-far.ensures in
-    (omega (arith, l.room), omega (arith, l.room, l.behind), omega (arith, l.timed), omega (arith, l.timed), omega (arith, l.timed))
+    (omega (arith, l.room), omega (arith, l.room, l.behind), (omega (arith, l.timed), omega (arith, l.timed), omega (arith, l.timed)))
 
 pub loop-used-preserved-then-used-budget : goal.loop-used-preserved-then-used-budget
 loop-used-preserved-then-used-budget c = (left_step (left-skip c.loop-used.invariant.0 c.skip-far.ensures) c.if-used-budget.true c.cycle-at.ensures (sym (c.in_default.ensures _)), c.cycle-at.auto.memory ∙ c.skip-far.auto.memory ∙ c.loop-used.invariant.1)

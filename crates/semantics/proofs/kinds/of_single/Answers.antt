@@ -1,5 +1,8 @@
-use Rattle.semantics.proofs.WordSums.{single-adds}
+use Rattle.word.specs.declared.Instruction.{Instruction}
+use Rattle.semantics.specs.Sums.{sums_of}
+use Rattle.semantics.proofs.WordSums.{adds-with}
 use Rattle.semantics.proofs.kinds.of_single.Goals as goal
 
 pub returns : goal.returns
-returns c m = single-adds _ m c.with_refills.ensures c.single_sums.ensures c.single_stores.ensures
+unfolding sums_of
+returns c m = adds-with (Instruction.Single c.args.i) c.with_refills.ensures c.single_sums.ensures c.single_stores.ensures

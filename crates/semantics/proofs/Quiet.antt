@@ -18,7 +18,7 @@ use Rattle.transfer.specs.Block as block
 use Rattle.stops.specs.Rules.{first_broken, is15, rule_broken}
 use Rattle.stops.specs.Moves.{moved_by, stored_by}
 use Rattle.stops.specs.Stops.{outside, hits, moved_stop, stop_of}
-use Rattle.stops.proofs.Both.{or-false}
+use Rattle.semantics.proofs.Both.{or-false}
 
 quiet : (b : Bool) (q : ℕ) {m : ℕ} → pick b (suc q) m ≡ 0 → (b ≡ false) × (m ≡ 0)
 quiet true q e = absurd (omega arith)
