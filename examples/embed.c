@@ -1,5 +1,5 @@
 /* Runs an image and prints every store into a link window: its cycle, and the cycles since the one before. Then the
- * cycles, and the instructions done with their ticks of the slot memory.
+ * cycles, the instructions done and the ticks of the slot memory so far.
  *
  *     gcc -std=c11 -Wall -Wextra -pedantic -I include examples/embed.c target/staticlib/libslot.a -o target/embed
  *     target/embed [IMAGE FROM-TO [CYCLES]]

@@ -1,4 +1,4 @@
--- A core that passes the test for a bad record passes it after a cycle.
+-- A core that passes the test for a bad record, its cycles and sums apart, passes it after a cycle.
 -- Assumes nothing.
 use Rattle.std.specs.Prelude.{Option, ℕ, Some, None}
 use Prim.Native.Nat.{ℕ, zero, suc, ◌+◌, ◌-◌, ◌%◌, ◌≤◌, ◌<◌}
@@ -375,7 +375,7 @@ retired-counts (Done Skipped) k c h = omega arith
 retired-counts (Done (Executed m)) k c h = omega arith
 retired-counts (Jump w) k c h = omega arith
 
--- a core whose record is not bad but for its count of cycles, with no stop held
+-- a core whose record is not bad but for its cycles and sums, with no stop held
 pub record Sound (m : Machine) : Type 0 where
   pub short : m.control.board.size ≤ most_bytes
   pub range : m.control.pipe.pc < counters

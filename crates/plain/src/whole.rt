@@ -6,7 +6,6 @@ use crate::Came;
 use registers::Context;
 use semantics::Tally;
 use semantics::perform::perform_at;
-use stops::reason::Stop;
 
 // The cycles of the longest instruction: a load of sixteen registers, the counter among them.
 pub const LONGEST: u64 = 20;
@@ -28,8 +27,10 @@ pub fn wholes(
     let mut here = from.a;
     let mut left = budget;
     let mut more = count;
-    let mut met: Option<Stop> = None;
-    while more != 0 && LONGEST <= left {
+    while more != 0 {
+        if left < LONGEST {
+            break;
+        }
         let c = Context {
             flags: status,
             a: here,
@@ -43,13 +44,18 @@ pub fn wholes(
                 more -= 1;
             }
             Err(stop) => {
-                met = Some(stop);
-                break;
+                return Came {
+                    stop: Some(stop),
+                    flags: status,
+                    a: here,
+                    done: count - more,
+                    used: budget - left,
+                };
             }
         }
     }
     Came {
-        stop: met,
+        stop: None,
         flags: status,
         a: here,
         done: count - more,

@@ -1,5 +1,5 @@
 //! Runs an image and prints every store into a link window: its cycle, and the cycles since the one before. Then the
-//! cycles, and the instructions done with their ticks of the slot memory. examples/embed.c is the same program in C.
+//! cycles, the instructions done and the ticks of the slot memory so far. examples/embed.c is the same program in C.
 
 mod slot;
 

@@ -87,7 +87,7 @@ fn words() -> Vec<Case> {
         let fields = [(IX, word), (10, 0), (ADDRESS, 0x18)];
         cases.push(tampered(&load, 2, what, &fields));
     }
-    // No word is a start's, and refilled; SWI is not.
+    // No word in IX: a refill is then the start's, and accepted.
     for done in [2, 5, 6] {
         let blank = [(IX, 0), (IX + 1, 0)];
         cases.push(tampered(&load, done, "no word", &blank));
