@@ -3,3 +3,4 @@ pub mod Laws
 pub mod Lanes
 pub mod Fetches
 pub mod Chunks
+pub mod Lengths

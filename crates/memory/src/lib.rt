@@ -6,6 +6,7 @@ ghost use Rattle.std.specs.Prelude.{◌≡◌};
 ghost use Rattle.memory.specs.Memory.{memory_of, place, limit, read_word, write_word, read_byte, write_byte, word_at};
 
 pub mod bytes;
+pub mod length;
 
 // What the memory is built into: its size in bytes.
 #[derive(Clone, Copy)]

@@ -13,7 +13,9 @@ use lib.Dec.{ltb, leb, eqb}
 use borrow.Author.Tests.{lt-ltb, le-ltb, le-leb, eq-eqb, ne_eqb, ltb-true, ltb-false, eqb-true, eqb-false}
 use Rattle.bits.specs.Choice.{pick}
 use Rattle.plain.specs.Machine as plain
-use Rattle.plain.specs.Numbers.{most_bytes, bad_length, is_stop, start_answer}
+use Rattle.memory.specs.Lengths.{most_bytes, bad_length}
+use Rattle.memory.proofs.Lengths.{length-good}
+use Rattle.plain.specs.Numbers.{is_stop, start_answer}
 use Rattle.plain.specs.Run as plain_calls
 use Rattle.plain.specs.Trace.{trace, stop_met, durations, Does}
 use Rattle.plain.proofs.Accepted as plain-start
@@ -628,7 +630,7 @@ module _ (g : List ℕ) (flags entry : ℕ) (mem : List ℕ) where
       let m₀ = beginning g flags entry mem in
       let r : p.plain.a < counters = omega (arith, a.placed.inside, a.sized.most) in
       let s : p.plain.board.size ≤ most_bytes = a.sized.most in
-      let l : bad_length (length mem) ≡ false = plain-start.length-good (length mem) a.sized in
+      let l : bad_length (length mem) ≡ false = length-good (length mem) a.sized in
       let (q, answers, h) = all p m₀ r s (length mem) l refl refl refl 0 (refl, begins a r s) calls in
       record {
         stop = q;

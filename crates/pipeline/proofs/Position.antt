@@ -12,7 +12,7 @@ use Rattle.semantics.specs.Sums.{no_sums, plus, total, start_sums}
 use Rattle.plain.specs.Trace.{trace, stop_met, duration, durations, adds, added, Does}
 use Rattle.plain.proofs.WholeSteps.{adds-timed, plus-plus}
 use Rattle.datapath.specs.Counter.{counters}
-use Rattle.plain.specs.Numbers.{most_bytes}
+use Rattle.memory.specs.Lengths.{most_bytes}
 use Rattle.cycle.specs.declared.Counts.{Counts}
 use Rattle.cycle.specs.Machine.{Machine, machine, counts}
 use Rattle.cycle.specs.Cycle.{cycle, own_of}

@@ -15,7 +15,8 @@ use Rattle.word.specs.Reader.{read_of}
 use Rattle.semantics.specs.Duration.{own_steps, stores_counter, duration_of}
 use Rattle.semantics.proofs.Durations.{steps-short}
 use Rattle.datapath.specs.Counter.{counters}
-use Rattle.plain.specs.Numbers.{most_bytes, most_budget, least_bytes}
+use Rattle.memory.specs.Lengths.{most_bytes, least_bytes}
+use Rattle.plain.specs.Numbers.{most_budget}
 use Rattle.plain.specs.Running.{Ran, ran, one_more, unless}
 use Rattle.plain.specs.Running as engines
 use Rattle.steps.specs.declared.Phase.{Phase}

@@ -48,7 +48,7 @@ use Rattle.steps.specs.declared.Latches.{Latches}
 use Rattle.steps.specs.declared.Step.{Step}
 use Rattle.cycle.specs.declared.Pipe.{Pipe}
 use Rattle.cycle.specs.declared.Counts.{Counts}
-use Rattle.plain.specs.Numbers.{most_bytes}
+use Rattle.memory.specs.Lengths.{most_bytes}
 use Rattle.cycle.specs.Machine.{Machine, machine, lent, state_of, pipe}
 use Rattle.steps.specs.Steps.{Own, own, ends, still, last, multiply_last, next_to_move, first_step, later_step, load_later, store_later, load_step, block_load_later, store_step, block_store_later, multiply_later}
 use Rattle.cycle.specs.Cycle.{cycle, first_due, own_of, fetches, pipe_after, phase_after, retired_by}

@@ -4,33 +4,18 @@ use Prim.Native.Nat.{ℕ, ◌%◌, ◌≤◌}
 use mathlib.Core.Path.{◌≡◌, refl, sym, ◌∙◌}
 use mathlib.Core.Bool.{Bool, true, false, not, ◌&&◌, ◌||◌, false≢true}
 use native.Mathlib.Omega.{arith}
-use borrow.Author.Tests.{ltb-true, ltb-false, lt-ltb, le-ltb, eqb-true, eq-eqb, not-false}
+use borrow.Author.Tests.{ltb-true, ltb-false, lt-ltb, eqb-true, eq-eqb, not-false}
 use lib.Dec.{eqb, ltb, leb}
 use Rattle.stops.specs.Numbers.{no_word, fetched_word}
 use Rattle.bits.specs.Choice.{pick}
 use Rattle.plain.specs.declared.Plain.{Plain}
-use Rattle.plain.specs.Numbers.{most_budget, bad_length, bad_entry, bad_flags, bad_budget, start_answer, is_stop, is_counter, bad, refusal}
+use Rattle.plain.specs.Numbers.{most_budget, bad_entry, bad_flags, bad_budget, start_answer, is_stop, is_counter, bad, refusal}
 use Rattle.plain.specs.Refused.{budget_refused, record_refused, other_memory}
-use Rattle.plain.specs.Starts.{GoodLength, GoodEntry, Answered, length_bad, entry_bad, flags_bad, accepted, Starts}
-
-neither : (a b : Bool) → (a || b) ≡ false → (a ≡ false) × (b ≡ false)
-neither true b e = absurd (false≢true (sym e))
-neither false b e = (refl, e)
+use Rattle.memory.specs.Lengths.{bad_length, GoodLength}
+use Rattle.memory.proofs.Lengths.{neither, good_length, length-good}
+use Rattle.plain.specs.Starts.{GoodEntry, Answered, length_bad, entry_bad, flags_bad, accepted, Starts}
 
 -- the tests and the conditions
-
-pub good_length : (n : ℕ) → bad_length n ≡ false → GoodLength n
-good_length n e =
-    let sizes = neither (not (eqb (n % 4) 0) || ltb n 16) (ltb 65536 n) e in
-    let low = neither (not (eqb (n % 4) 0)) (ltb n 16) sizes.0 in
-    record {
-      whole = eqb-true (n % 4) 0 (not-false _ low.0);
-      least = ltb-false n 16 low.1;
-      most = ltb-false 65536 n sizes.1;
-    }
-
-pub length-good : (n : ℕ) → GoodLength n → bad_length n ≡ false
-length-good n g = rw (eq-eqb (n % 4) 0 g.whole, le-ltb n 16 g.least, le-ltb 65536 n g.most)
 
 good-entry : (entry n : ℕ) → bad_entry entry n ≡ false → GoodEntry entry n
 good-entry entry n e =

@@ -4,22 +4,12 @@ use Rattle.datapath.specs.Counter.{counters}
 use Rattle.bits.specs.Choice.{pick}
 use Rattle.stops.specs.Numbers.{no_word, fetched_word}
 use Rattle.plain.specs.declared.Plain.{Plain}
-use Rattle.plain.specs.Refused.{length_refused, entry_refused, budget_refused, flags_refused, record_refused, other_memory}
-
--- the smallest and the largest memory, in bytes
-abbrev pub least_bytes : ℕ
-least_bytes = 16
-
-abbrev pub most_bytes : ℕ
-most_bytes = 65536
+use Rattle.memory.specs.Lengths.{length_refused, bad_length}
+use Rattle.plain.specs.Refused.{entry_refused, budget_refused, flags_refused, record_refused, other_memory}
 
 -- the largest budget of a run
 abbrev pub most_budget : ℕ
 most_budget = 1000000
-
--- 1: a length that is not a multiple of 4, or outside 16..65,536
-abbrev pub bad_length : ℕ → Bool
-bad_length n = not (eqb (n % 4) 0) || ltb n least_bytes || ltb most_bytes n
 
 -- 2: an entry that is not a multiple of 4 or not below the length
 abbrev pub bad_entry : ℕ → ℕ → Bool

@@ -2,11 +2,9 @@
 use Rattle.std.specs.Prelude.{ℕ, Option, Result, Ok, Err}
 use Rattle.stops.specs.declared.reason.Stop.{Stop}
 use Rattle.stops.specs.Numbers.{held_number}
+use Rattle.memory.specs.Lengths.{length_refused}
 use Rattle.plain.specs.declared.refused.Refusal.{Refusal}
 use Rattle.plain.specs.declared.refused.Refusal.TheVariants.{Length, Entry, Budget, Flags, Record, OtherMemory, TooManyCycles}
-
-abbrev pub length_refused : ℕ
-length_refused = 1
 
 abbrev pub entry_refused : ℕ
 entry_refused = 2

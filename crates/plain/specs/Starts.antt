@@ -1,13 +1,8 @@
 -- What a start of either machine answers, said by the conditions of the paper ("Numbers caused by the input") and not by tests: a second road
 -- to `start_answer`. The cases exclude each other, so that a start that refuses too much is none of them.
 use Rattle.std.specs.Prelude.{ℕ, ◌%◌, ◌≤◌, ◌<◌, ◌≡◌}
+use Rattle.memory.specs.Lengths.{GoodLength}
 use Rattle.plain.specs.Numbers.{start_answer}
-
--- 1 does not apply: a multiple of 4, from 16 to 65,536
-pub record GoodLength (n : ℕ) : Type 0 where
-  pub whole : n % 4 ≡ 0
-  pub least : 16 ≤ n
-  pub most : n ≤ 65536
 
 -- 2 does not apply: a multiple of 4 below the length
 pub record GoodEntry (entry n : ℕ) : Type 0 where

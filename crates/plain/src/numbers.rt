@@ -1,27 +1,16 @@
 // What a start or a run of the plain machine refuses; the core's start and run test the same.
 ghost use Rattle.std.specs.Prelude.{◌≡◌};
 ghost use Rattle.plain.specs.Refused.{refusal_number};
-ghost use Rattle.plain.specs.Numbers.{bad_length, bad_entry, bad_flags, start_answer, is_stop, is_counter, bad, bad_budget, refusal};
+ghost use Rattle.plain.specs.Numbers.{bad_entry, bad_flags, start_answer, is_stop, is_counter, bad, bad_budget, refusal};
 
 use crate::Plain;
 use crate::refused::Refusal;
 use datapath::counter::COUNTERS;
+use memory::length::length_is_bad;
 use stops::reason::Stop;
-
-// The smallest and the largest memory, in bytes.
-pub const LEAST_BYTES: usize = 16;
-
-pub const MOST_BYTES: usize = 65536;
 
 // The largest budget of a run.
 pub const MOST_BUDGET: u64 = 1000000;
-
-// 1
-pub fn length_is_bad(length: usize) -> bool
-    ensures { result ≡ bad_length length }
-{
-    (length % 4 != 0) | (length < LEAST_BYTES) | (MOST_BYTES < length)
-}
 
 // 2
 pub fn entry_is_bad(entry: u32, length: usize) -> bool

@@ -13,7 +13,8 @@ use Rattle.stops.specs.declared.reason.Stop.{Stop}
 use Rattle.stops.specs.declared.reason.NoStop.{NoStop}
 use Rattle.stops.specs.Numbers.{no_word, fetched_word, number_of, held_number}
 use Rattle.plain.proofs.Accepted.{no-stop-zero}
-use Rattle.plain.specs.Numbers.{bad_length, bad_flags, bad_budget, is_counter, is_stop}
+use Rattle.memory.specs.Lengths.{bad_length}
+use Rattle.plain.specs.Numbers.{bad_flags, bad_budget, is_counter, is_stop}
 use Rattle.semantics.proofs.Both.{or-false}
 use Rattle.semantics.specs.Sums.{total}
 use Rattle.cycle.specs.declared.Control.{Control}

@@ -13,7 +13,8 @@ use Rattle.stops.specs.Rules.{rule_broken}
 use Rattle.stops.specs.Moves.{span}
 use Rattle.stops.specs.Stops.{Due, no_word_there, skipped, executes, due, outside}
 use Rattle.plain.specs.Refused.{budget_refused, record_refused, other_memory, too_many_cycles}
-use Rattle.plain.specs.Numbers.{bad_length, bad_flags, bad_budget, is_counter, is_stop}
+use Rattle.memory.specs.Lengths.{bad_length}
+use Rattle.plain.specs.Numbers.{bad_flags, bad_budget, is_counter, is_stop}
 use Rattle.steps.specs.declared.Phase.{Phase}
 use Rattle.steps.specs.declared.Phase.TheVariants.{Step1, Refill1, Refill2, Later}
 use Rattle.cycle.specs.declared.Counts.{Counts}

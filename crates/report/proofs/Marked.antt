@@ -14,7 +14,8 @@ use Rattle.pipeline.proofs.Marked as values
 use Rattle.report.specs.Lines.{register_line, register_lines}
 use Rattle.report.specs.Held.{registers, held}
 use Rattle.report.specs.Report.{answer_line, core_lines, begun, finished, report_text}
-use Rattle.report.specs.Marked.{bytes, sample_text, held_text, Marked}
+use Rattle.text.specs.Quoted.{bytes}
+use Rattle.report.specs.Marked.{sample_text, held_text, Marked}
 
 -- the lines of the run, whose numbers are the marked values
 lines : Report → answer_line reported.answer ++ core_lines reported.machine.registers reported.machine.control ≡ bytes sample_text

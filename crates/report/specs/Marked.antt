@@ -1,17 +1,12 @@
 -- The report that paper 01 gives, byte for byte ("Marked values, proved together"); beside it the lines of a core with a value of its own in each place,
 -- and the budget.
 use Rattle.std.specs.Prelude.{ℕ, ◌≡◌, List}
-use Prim.Native.Char.{code}
-use Prim.Native.String.{String, [], ◌∷◌, ◌++◌}
+use Prim.Native.String.{String, ◌++◌}
 use mathlib.Core.List as list
+use Rattle.text.specs.Quoted.{bytes}
 use Rattle.pipeline.specs.Marked.{image}
 use Rattle.report.specs.Held.{registers, held}
 use Rattle.report.specs.Report.{core_lines, begun, finished, report_text}
-
--- a quoted text as bytes; all of these are ASCII
-abbrev pub bytes : String → List ℕ
-bytes [] = list.[]
-bytes (c ∷ text) = list.◌∷◌ (code c) (bytes text)
 
 abbrev pub holds : String → String → String
 holds name digits = name ++ ("=" ++ (digits ++ "\n"))

@@ -9,7 +9,7 @@ use Rattle.semantics.proofs.Stopped.{stopped-unchanged}
 use Rattle.plain.specs.Machine as plain
 use Rattle.plain.specs.Trace.{stop_met, duration, adds}
 use Rattle.datapath.specs.Counter.{counters}
-use Rattle.plain.specs.Numbers.{most_bytes}
+use Rattle.memory.specs.Lengths.{most_bytes}
 use Rattle.cycle.specs.Machine.{Machine}
 use Rattle.cycle.specs.Cycle.{cycle}
 use Rattle.cycle.specs.StopFound.{stop_found}

@@ -42,7 +42,7 @@ use Rattle.stops.proofs.Spans.{last_decides}
 use Rattle.datapath.proofs.Counters.{behind-ahead}
 use Rattle.steps.specs.declared.Phase.TheVariants.{Step1, Later}
 use Rattle.steps.specs.declared.Latches.{Latches}
-use Rattle.plain.specs.Numbers.{most_bytes}
+use Rattle.memory.specs.Lengths.{most_bytes}
 use Rattle.semantics.specs.declared.Sums.{Sums}
 use Rattle.semantics.specs.Sums.{no_sums, skipped_sums, sums_of, m_in}
 use Rattle.cycle.specs.declared.Counts.{Counts}

@@ -28,7 +28,7 @@ use Rattle.semantics.proofs.Stopped.{stopped-unchanged}
 use Rattle.plain.specs.Machine as plain
 use Rattle.semantics.specs.Sums.{executed_sums, sums_due, performs_sums}
 use Rattle.plain.specs.Trace.{stop_met, duration, adds}
-use Rattle.plain.specs.Numbers.{most_bytes}
+use Rattle.memory.specs.Lengths.{most_bytes}
 use Rattle.cycle.specs.StopFound.{stop_found}
 use Rattle.cycle.specs.Cycle.{cycle}
 use Rattle.runs.specs.Boundary.{boundary}

@@ -15,7 +15,7 @@ use Rattle.datapath.proofs.Counters.{behind-lt, ahead-behind}
 use Rattle.memory.specs.Memory.{memory_of, word_at}
 use Rattle.plain.specs.Machine as plain
 use Rattle.plain.specs.Trace.{stop_met, duration, adds}
-use Rattle.plain.specs.Numbers.{most_bytes}
+use Rattle.memory.specs.Lengths.{most_bytes}
 use Rattle.plain.specs.Running.{ran, more_by}
 use Rattle.plain.specs.Whole.{Wholes, wholes_of, none_done, longest, wholes}
 use Rattle.plain.proofs.WholeSteps.{duration-short, met, within-budgets, adds-timed, wholes-timed, plus-none, plus-plus}

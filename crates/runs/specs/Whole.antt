@@ -8,7 +8,7 @@ use Rattle.semantics.specs.declared.Sums.{Sums}
 use Rattle.semantics.specs.Sums.{plus, total}
 use Rattle.cycle.specs.declared.Control.{Control}
 use Rattle.cycle.specs.declared.Counts.{Counts}
-use Rattle.plain.specs.Numbers.{most_bytes}
+use Rattle.memory.specs.Lengths.{most_bytes}
 use Rattle.cycle.specs.Machine.{Machine, counts, most_cycles}
 use Rattle.cycle.specs.StopFound.{is_step1}
 use Rattle.plain.specs.Running.{more_by}

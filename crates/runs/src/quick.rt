@@ -14,7 +14,7 @@ use cycle::{Control, Counts, Pipe};
 use datapath::counter::{COUNTERS, ahead, behind};
 use memory::fetch;
 use plain::Came;
-use plain::numbers::MOST_BYTES;
+use memory::length::MOST_BYTES;
 use plain::whole::{LONGEST, wholes};
 use registers::Context;
 use semantics::{Sums, Tally};

@@ -16,7 +16,8 @@ use Rattle.pipeline.specs.Calls as pipeline
 use Rattle.runs.specs.Run as run
 use Rattle.runs.proofs.PlainSteps.{Stop, stop-for, stop-met}
 use Rattle.plain.specs.Machine as unpiped
-use Rattle.plain.specs.Numbers.{bad_length, bad_flags, is_counter, is_stop}
+use Rattle.memory.specs.Lengths.{bad_length}
+use Rattle.plain.specs.Numbers.{bad_flags, is_counter, is_stop}
 use Rattle.plain.specs.Numbers as plain_numbers
 use Rattle.plain.specs.Running.{ran, Engine, runs, unless}
 use Rattle.plain.proofs.Running.{found}

@@ -1,3 +1,4 @@
 pub mod Digit
 pub mod Text
 pub mod Output
+pub mod Quoted
