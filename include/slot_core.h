@@ -1,8 +1,8 @@
 /* The machines of the library slot (archive libslot.a): C11 and C++17, for gcc or clang on x86-64 Linux.
  *
  * A core, a plain machine and a word's record are arrays of 32-bit words that the caller owns; the calls keep nothing
- * between them, allocate nothing and touch nothing but what they are lent. No pointer may be null, and no array or
- * memory of one call may overlap another. Memory is bytes, a word's lowest byte first; its length is 16 to 65,536, a
+ * between them, allocate nothing and touch nothing but what they are lent. No pointer may be null, and no array, memory
+ * or text of one call may overlap another. Memory is bytes, a word's lowest byte first; its length is 16 to 65,536, a
  * multiple of 4.
  *
  * Threads: calls on different arrays and memories may run at once, in any number. One array or memory is one call's at
@@ -12,7 +12,7 @@
  *
  * ---- what stands below
  *   version and layout; numbers; a core's array, how to read it between calls, and the ticks of the slot memory; a
- *   plain machine's array; a word's record; the calls. */
+ *   plain machine's array; a word's record; images as Intel HEX; the calls. */
 #ifndef SLOT_CORE_H
 #define SLOT_CORE_H
 
@@ -29,7 +29,7 @@ extern "C" {
  * changes. Each file that includes this header refers to slot_abi_2, which only an archive of that number has, so a
  * program built with this header and another archive does not link: "undefined reference to `slot_abi_2'". A language
  * without this header refers to slot_abi_2 itself, or looks it up before its first call. It answers the number. */
-#define SLOT_VERSION "0.8.0"
+#define SLOT_VERSION "0.9.0"
 #define SLOT_ABI 2
 uint32_t slot_abi_2(void);
 
@@ -45,13 +45,14 @@ static uint32_t (*const slot_abi_wanted)(void) SLOT_ABI_KEPT = slot_abi_2;
 
 /* ---- numbers
  *
- * 0 is done, 1 to 20 are refusals, from 21 on they are stops. A refused call changes no array and no memory (a refused
- * start leaves its array all 0). A stop is kept in the array, costs no cycle and changes nothing else; later runs and
- * settles answer it again. It is found before the instruction at A does anything, and only where the budget is not yet
- * spent: a run whose last cycle reaches A answers 0, and the next one finds the stop. A settle finds none. */
+ * 0 is done, 1 to 20 are refusals, 21 to 40 are stops, 41 to 43 are refusals of slot_hex_read. A refused call changes no
+ * array and no memory, but for two: a refused start leaves its array all 0, and a slot_hex_read that is refused with 41
+ * to 43 its memory. A stop is kept in the array, costs no cycle and changes nothing else; later runs and settles answer
+ * it again. It is found before the instruction at A does anything, and only where the budget is not yet spent: a run
+ * whose last cycle reaches A answers 0, and the next one finds the stop. A settle finds none. */
 enum {
     SLOT_OK = 0,             /* done; of a run: the budget is spent; of a settle: the core is on a boundary */
-    SLOT_BAD_LENGTH = 1,     /* start: the memory's length */
+    SLOT_BAD_LENGTH = 1,     /* start, hex_read, hex_line: the memory's length */
     SLOT_BAD_ENTRY = 2,      /* start: the entry is no multiple of 4, or not below the length */
     SLOT_BAD_BUDGET = 3,     /* run: a budget above 1,000,000 */
     SLOT_BAD_FLAGS = 4,      /* start: flags above 15 */
@@ -66,7 +67,10 @@ enum {
     SLOT_STOP_OUTSIDE = 24,  /* the instruction at A would load or store outside memory */
     SLOT_STOP_FETCHED = 25,  /* the instruction at A would store to the word at A+4 or A+8, which are fetched already */
     SLOT_STOP_FIRST = 21,
-    SLOT_STOP_LAST = 25
+    SLOT_STOP_LAST = 25,
+    SLOT_HEX_UNSOUND = 41,   /* hex_read: a line is no sound record of type 00, 01 or 04 */
+    SLOT_HEX_OUTSIDE = 42,   /* hex_read: a line has a data byte at or above the memory's length */
+    SLOT_HEX_NO_END = 43     /* hex_read: the text ends without an end record */
 };
 
 /* ---- a core: the index of each word */
@@ -253,6 +257,48 @@ enum {
     SLOT_CONDITION_NV = 15  /* never */
 };
 
+/* ---- images as Intel HEX
+ *
+ * Intel HEX is text that says which bytes stand where in memory, a record in each line. Compilers' tools write it
+ * (objcopy -O ihex), and programs that load boards read it. slot_hex_read reads such a text into memory, slot_hex_line
+ * writes memory as such a text.
+ *
+ * A sound record is a colon, then bytes, each as two hexadecimal digits of either case: a count, an address in two
+ * bytes, the higher first, a type, as many bytes of data as the count says, and a last byte that brings the sum of all
+ * these to 0 modulo 256. Its line has nothing else, not even a space. Three types are read; any other is unsound, also
+ * 03 and 05, in which objcopy tells an entry that is not 0:
+ *
+ *     :03001000E3A0402A    type 00, data: E3 at address 0010, A0 at 0011, 40 at 0012
+ *     :020000040001F9      type 04, `upper` for the data that follow, here 0001: two bytes of data, address 0000
+ *     :00000001FF          type 01, the end: no data, address 0000
+ *
+ * Byte j of a data record stands at 65,536 x upper + address + j, which wraps nowhere. `upper` is 0 at first, then what
+ * the last type 04 said. A byte that no record names is 0, one that is named twice takes the later. What stands behind
+ * the line of the end record is ignored.
+ *
+ * A line ends in LF, in CR LF or with the text. Where nothing stands behind the last line's end, that is no line; an
+ * empty line elsewhere is unsound. A CR that is not right before an LF is a byte of its line.
+ *
+ * slot_hex_line writes a data record for each 16 bytes of memory, from address 0 up, the last one shorter where the
+ * length is no multiple of 16; then the end record. Digits are upper case, and each line ends in LF. A whole file:
+ *
+ *     uint8_t out[SLOT_HEX_LINE];
+ *     uint32_t written;
+ *     for (uint32_t line = 0; slot_hex_line(memory, length, line, out, &written) == SLOT_OK && written > 0; line++) {
+ *         fwrite(out, 1, written, file);
+ *     }
+ *
+ * Read into memory of that length, whatever it held, these lines give the same bytes again. To read a file and start:
+ *
+ *     static uint8_t text[1000000];
+ *     size_t text_length = fread(text, 1, sizeof text, file);
+ *     if (slot_hex_read(text, text_length, memory, length) == SLOT_OK) {
+ *         slot_core_start(core, registers, 0, 0, memory, length);
+ *     }
+ *
+ * A text that was cut off before its end record is whole is refused. */
+enum { SLOT_HEX_LINE = 44 }; /* the bytes of `out`: no line has more */
+
 /* ---- the calls */
 
 /* Starts a core at `entry` with registers R0 to R14 and flags (N, Z, C, V in bits 3 to 0), about to refill.
@@ -283,6 +329,17 @@ void slot_word_read(uint32_t word, uint32_t *record);
 
 /* The word of a record. Refused with 5, and *word 0: an array that slot_word_read could not have made. */
 uint32_t slot_word_write(const uint32_t *record, uint32_t *word);
+
+/* Reads an Intel HEX text into memory, whatever memory held. The text may be empty: at text_length 0 no byte of it is
+ * read. It tests 1 first, and so refused leaves memory as it was. Then it goes from line to line, testing each for 41,
+ * 42 in this order, and answers 43 where no line is left; these three leave memory all 0. */
+uint32_t slot_hex_read(const uint8_t *text, size_t text_length, uint8_t *memory, size_t length);
+
+/* Writes one line of the memory's text to `out`, an array of SLOT_HEX_LINE bytes, and sets *written to how many bytes
+ * the line has, its LF counted; there is no NUL. The first line is 0; every line past the end record has 0 bytes. Bytes
+ * of `out` behind those written stay as they were. It tests 1 first, for every line; refused, it leaves `out` as it was
+ * and sets *written to 0. */
+uint32_t slot_hex_line(const uint8_t *memory, size_t length, uint32_t line, uint8_t *out, uint32_t *written);
 
 #ifdef __cplusplus
 }

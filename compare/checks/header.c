@@ -746,6 +746,447 @@ static void watched_images(void)
     printf("watched: %u stores, %u loads\n", stores, loads);
 }
 
+/* ---- images as Intel HEX */
+
+enum { MOST = 65536, ROOM = 1 << 18, JUNK = 0xA5, BEYOND = 8 };
+
+#define DATA ":0400100001020304E2"
+#define END ":00000001FF"
+
+static const char upper_case[] = "0123456789ABCDEF", lower_case[] = "0123456789abcdef";
+static uint8_t image[MOST + BEYOND], lent[MOST + 2 * BEYOND]; /* lent memory, and junk behind it */
+static char hex[ROOM], hex_before[ROOM];
+static size_t hex_length;
+
+static int all(const uint8_t *bytes, size_t n, uint8_t value)
+{
+    for (size_t i = 0; i < n; i++) {
+        if (bytes[i] != value) {
+            return 0;
+        }
+    }
+    return 1;
+}
+
+static void add(const char *text)
+{
+    memcpy(hex + hex_length, text, strlen(text));
+    hex_length += strlen(text);
+}
+
+static void set(const char *text)
+{
+    hex_length = 0;
+    add(text);
+}
+
+static void add_byte(const char *digits, unsigned byte)
+{
+    hex[hex_length++] = digits[byte / 16];
+    hex[hex_length++] = digits[byte % 16];
+}
+
+/* A record, without its line's end. */
+static void add_record(const char *digits, unsigned type, unsigned address, const uint8_t *data, unsigned n)
+{
+    unsigned sum = n + address / 256 + address % 256 + type;
+    add(":");
+    add_byte(digits, n);
+    add_byte(digits, address / 256);
+    add_byte(digits, address % 256);
+    add_byte(digits, type);
+    for (unsigned i = 0; i < n; i++) {
+        add_byte(digits, data[i]);
+        sum += data[i];
+    }
+    add_byte(digits, (256 - sum % 256) % 256);
+}
+
+/* The text, read into so many bytes of junk. */
+static uint32_t read_hex(size_t length)
+{
+    memset(lent, JUNK, length + BEYOND);
+    memcpy(hex_before, hex, hex_length);
+    const uint32_t answer = slot_hex_read((const uint8_t *)hex, hex_length, lent, length);
+    so(memcmp(hex_before, hex, hex_length) == 0, "a text is not written to", answer);
+    so(all(lent + length, BEYOND, JUNK), "nothing behind the memory is written to", answer);
+    return answer;
+}
+
+static void so_refused(uint32_t number, size_t length, const char *claim)
+{
+    const uint32_t answer = read_hex(length);
+    so(answer == number && all(lent, length, 0), claim, answer);
+}
+
+static void refused(const char *text, uint32_t number, const char *claim)
+{
+    set(text);
+    so_refused(number, LENGTH, claim);
+}
+
+/* These four bytes, the first one highest, are at 10, and all others are 0. */
+static void reads(const char *text, uint32_t four, const char *claim)
+{
+    uint8_t expected[LENGTH] = {0};
+    for (unsigned i = 0; i < 4; i++) {
+        expected[0x10 + i] = (uint8_t)(four >> (24 - 8 * i));
+    }
+    set(text);
+    const uint32_t answer = read_hex(LENGTH);
+    so(answer == SLOT_OK && memcmp(lent, expected, LENGTH) == 0, claim, answer);
+}
+
+static void read_texts(void)
+{
+    reads(DATA "\n" END "\n", 0x01020304, "lines end in LF");
+    reads(DATA "\r\n" END "\r\n", 0x01020304, "lines end in CR LF");
+    reads(DATA "\r\n" END "\n", 0x01020304, "lines end in either");
+    reads(DATA "\n" END, 0x01020304, "a line ends with the text");
+    reads(END, 0, "a byte that no record names is 0");
+    reads(":04001000ABCDEFFA8B\n" END, 0xABCDEFFA, "digits of upper case");
+    reads(":04001000abcdeffa8b\n:00000001ff", 0xABCDEFFA, "digits of lower case");
+    reads(":04001000aBCdeFfA8b\n:00000001fF", 0xABCDEFFA, "digits of both cases");
+    reads(":03001000E3A0402A\n" END, 0xE3A04000, "the header's data record");
+    reads(DATA "\n:02001200AABB87\n" END, 0x0102AABB, "a byte that is named twice takes the later");
+    reads(":02001200AABB87\n" DATA "\n" END, 0x01020304, "the same the other way");
+    reads(DATA "\n:00001000F0\n:00FFFF0002\n" END, 0x01020304, "a record of no data names no byte, wherever it stands");
+    reads(DATA "\n" END "\n\n:\n" DATA "\n:01FFFF0001FF\n\r", 0x01020304, "what stands behind the end record's line is ignored");
+    reads(":020000040000FA\n" DATA "\n" END, 0x01020304, "upper 0000");
+    reads(":020000040001F9\n:020000040000FA\n" DATA "\n" END, 0x01020304, "the last type 04 says upper");
+    reads(DATA "\n:020000040001F9\n" END, 0x01020304, "upper is 0 at first");
+    reads(DATA "\n:02000004FFFFFC\n:0000000000\n:00FFFF0002\n" END, 0x01020304, "no data, far up");
+    refused("", SLOT_HEX_NO_END, "43 is an empty text");
+    so(slot_hex_read((const uint8_t *)hex + ROOM, 0, lent, LENGTH) == SLOT_HEX_NO_END, "of which no byte is read", 0);
+    refused(DATA, SLOT_HEX_NO_END, "43 is a text without an end record");
+    refused(DATA "\n", SLOT_HEX_NO_END, "where nothing stands behind the last line's end, that is no line");
+    refused(DATA "\r\n", SLOT_HEX_NO_END, "nor where it is CR LF");
+    refused(DATA "\n:020000040001F9\n", SLOT_HEX_NO_END, "43 behind a type 04");
+}
+
+static void unsound_lines(void)
+{
+    refused("\n", SLOT_HEX_UNSOUND, "41 is an empty line");
+    refused("\r\n", SLOT_HEX_UNSOUND, "41 is an empty line that ends in CR LF");
+    refused("\n" DATA "\n" END "\n", SLOT_HEX_UNSOUND, "41 is an empty line before all");
+    refused(DATA "\n\n" END "\n", SLOT_HEX_UNSOUND, "41 is an empty line between");
+    refused(DATA "\r\n\r\n" END "\r\n", SLOT_HEX_UNSOUND, "41 is an empty line between, with CR LF");
+    refused(DATA "\n\n", SLOT_HEX_UNSOUND, "41 is an empty line at the end");
+    refused("\r", SLOT_HEX_UNSOUND, "a CR that no LF follows is a byte of its line");
+    refused(DATA "\n\r", SLOT_HEX_UNSOUND, "and so is one at the end");
+    refused(END "\r", SLOT_HEX_UNSOUND, "and one behind the last record");
+    refused(END "\r\r\n", SLOT_HEX_UNSOUND, "and one before the last one's CR");
+    refused(DATA "\r" END "\r\n", SLOT_HEX_UNSOUND, "and one between records");
+    refused("\r" END "\n", SLOT_HEX_UNSOUND, "and one before a record");
+    refused(DATA "\n\r" END "\n", SLOT_HEX_UNSOUND, "and one behind an LF");
+    refused(" " END, SLOT_HEX_UNSOUND, "41 is a space before a record");
+    refused(END " \n", SLOT_HEX_UNSOUND, "41 is a space behind one");
+    refused(END "\t\r\n", SLOT_HEX_UNSOUND, "41 is a tab behind one");
+    refused(END END "\n", SLOT_HEX_UNSOUND, "41 is two records in a line");
+    refused("00000001FF\n", SLOT_HEX_UNSOUND, "41 is a record without a colon");
+    refused(":", SLOT_HEX_UNSOUND, "41 is a colon alone");
+    refused(":0", SLOT_HEX_UNSOUND, "41 is half a count");
+    refused(":00", SLOT_HEX_UNSOUND, "41 is a count alone");
+    refused(":00000001F", SLOT_HEX_UNSOUND, "41 is a digit less");
+    refused(":00000001FF0", SLOT_HEX_UNSOUND, "41 is a digit more");
+    refused(":00000001FF00", SLOT_HEX_UNSOUND, "41 is a pair more");
+    refused(":0300100001020304E3\n" END, SLOT_HEX_UNSOUND, "41 is more data than the count says");
+    refused(":0500100001020304E1\n" END, SLOT_HEX_UNSOUND, "41 is less");
+    refused(":FF", SLOT_HEX_UNSOUND, "41 is a count of 255 with nothing behind it");
+    refused(DATA "\n:00000101FE\n", SLOT_HEX_UNSOUND, "41 is an end with an address");
+    refused(DATA "\n:00010001FE\n", SLOT_HEX_UNSOUND, "41 is an end with a high address");
+    refused(":020001040000F9\n" END, SLOT_HEX_UNSOUND, "41 is a type 04 with an address");
+    refused(":020100040000F9\n" END, SLOT_HEX_UNSOUND, "41 is a type 04 with a high address");
+    refused(":0100000400FB\n" END, SLOT_HEX_UNSOUND, "41 is a type 04 of one byte");
+    refused(":03000004000000F9\n" END, SLOT_HEX_UNSOUND, "41 is a type 04 of three bytes");
+    refused(":020000020000FC\n" END, SLOT_HEX_UNSOUND, "41 is a type 02");
+    refused(":0400000300000000F9\n" END, SLOT_HEX_UNSOUND, "41 is a type 03");
+    refused(":0400000500000000F7\n" END, SLOT_HEX_UNSOUND, "41 is a type 05");
+}
+
+/* Whether the lines are all sound: the text is read, or refused with 41. */
+static int sound(void)
+{
+    const uint32_t answer = read_hex(LENGTH);
+    so(answer == SLOT_OK || (answer == SLOT_HEX_UNSOUND && all(lent, LENGTH, 0)), "a line is sound, or refused with 41", answer);
+    return answer == SLOT_OK;
+}
+
+/* Every type, with no data and with two bytes of it. */
+static void types(void)
+{
+    static const uint8_t two[2] = {0, 0};
+    for (unsigned type = 0; type < 256; type++) {
+        set("");
+        add_record(upper_case, type, 0, two, 0);
+        add("\n" END "\n");
+        so(sound() == (type == 0 || type == 1), "a type of no data", type);
+        set("");
+        add_record(upper_case, type, 0, two, 2);
+        add("\n" END "\n");
+        so(sound() == (type == 0 || type == 4), "a type of two bytes of data", type);
+    }
+}
+
+/* Every last byte. */
+static void sums(void)
+{
+    for (unsigned sum = 0; sum < 256; sum++) {
+        set(":0400100001020304");
+        add_byte(upper_case, sum);
+        add("\n" END "\n");
+        so(sound() == (sum == 0xE2), "all bytes of a record sum to 0 modulo 256", sum);
+    }
+}
+
+/* Every byte at every place of a line: it stays sound only where the digit is the same. */
+static void exchanged(const char *line)
+{
+    for (size_t at = 0; at < strlen(line); at++) {
+        const char *digit = strchr(upper_case, line[at]);
+        const char lower = digit == NULL ? line[at] : lower_case[digit - upper_case];
+        for (unsigned byte = 0; byte < 256; byte++) {
+            set(line);
+            add("\n" END "\n");
+            hex[at] = (char)byte;
+            so(sound() == (hex[at] == line[at] || hex[at] == lower), "a byte of a record exchanged", (uint32_t)at << 8 | byte);
+        }
+    }
+}
+
+/* 42, at these ends of memory, and beyond those of addresses. */
+static void outside(void)
+{
+    static const size_t lengths[] = {16, 20, 256, 4096, 65532, 65536};
+    static uint8_t data[255];
+    memset(data, 0xEE, sizeof data);
+    for (size_t i = 0; i < sizeof lengths / sizeof *lengths; i++) {
+        const size_t length = lengths[i];
+        const unsigned n = length < sizeof data ? (unsigned)length : (unsigned)sizeof data, last = (unsigned)length - n;
+        hex_length = 0;
+        add_record(upper_case, 0, last, data, n);
+        add("\n" END "\n");
+        so(read_hex(length) == SLOT_OK && all(lent, last, 0) && all(lent + last, n, 0xEE), "data up to the length", last);
+        hex_length = 0;
+        add_record(upper_case, 0, 0, data, 16);
+        add("\n");
+        add_record(upper_case, 0, last + 1, data, n);
+        add("\n" END "\n");
+        so_refused(SLOT_HEX_OUTSIDE, length, "42 is a data byte at the length");
+        set("");
+        add_record(upper_case, 0, 0xFFFF, data, 2);
+        add("\n" END "\n");
+        so_refused(SLOT_HEX_OUTSIDE, length, "an address does not wrap at 65,536");
+        set(":02000004FFFFFC\n");
+        add_record(upper_case, 0, 0xFFFF, data, 2);
+        add("\n" END "\n");
+        so_refused(SLOT_HEX_OUTSIDE, length, "nor at 2^32");
+        set(":02000004FFFFFC\n");
+        add_record(upper_case, 0, 0xFFF0, data, 32);
+        add("\n" END "\n");
+        so_refused(SLOT_HEX_OUTSIDE, length, "nor where more bytes are beyond it");
+    }
+    for (unsigned upper = 1; upper < 65536; upper += upper) {
+        const uint8_t two[2] = {(uint8_t)(upper >> 8), (uint8_t)upper};
+        set(DATA "\n");
+        add_record(upper_case, 4, 0, two, 2);
+        add("\n" DATA "\n" END "\n");
+        so_refused(SLOT_HEX_OUTSIDE, MOST, "every bit of upper counts, and for the data that follow it");
+    }
+    refused(":020000040001F9\n" DATA "\n:020000040000FA\n" END, SLOT_HEX_OUTSIDE, "the header's type 04");
+    refused(":020000040001F9\n:00001000F0\n" DATA "\n" END, SLOT_HEX_OUTSIDE, "upper stays up to the next type 04");
+}
+
+static void orders(void)
+{
+    static const size_t lengths[] = {0, 4, 12, 15, 17, 18, 19, 255, 65535, 65537, 65540};
+    static const char *const texts[] = {"", DATA "\n" END "\n", "\n", DATA "\n", ":01FFFF000100\n"};
+    refused(":01FFFF000100\n" END, SLOT_HEX_OUTSIDE, "42 is told where a line is sound");
+    refused(":01FFFF000101\n" END, SLOT_HEX_UNSOUND, "41 comes before 42 on one line");
+    refused(":01FFFF000100\n:\n", SLOT_HEX_OUTSIDE, "42 comes before the 41 of a later line");
+    refused(":\n:01FFFF000100\n", SLOT_HEX_UNSOUND, "41 comes before the 42 of a later line");
+    refused(DATA "\n:01FFFF000100\n", SLOT_HEX_OUTSIDE, "42 comes before 43");
+    refused(DATA "\n:\n", SLOT_HEX_UNSOUND, "41 comes before 43");
+    refused(DATA "\n" DATA "\n:\n" END, SLOT_HEX_UNSOUND, "what was read before a refusal is 0 too");
+    for (size_t i = 0; i < sizeof lengths / sizeof *lengths; i++) {
+        for (size_t k = 0; k < sizeof texts / sizeof *texts; k++) {
+            set(texts[k]);
+            const uint32_t answer = read_hex(lengths[i]);
+            so(answer == SLOT_BAD_LENGTH && all(lent, lengths[i], JUNK), "1 comes before all, and leaves memory as it was", (uint32_t)lengths[i]);
+        }
+    }
+}
+
+/* A text cut off at each of its bytes. Behind the end record's digits there is the CR LF, and half of it is a byte of the line. */
+static void cut_off(void)
+{
+    static const char whole[] = ":020000040000FA\r\n" DATA "\n:00001000F0\r\n" END "\r\n";
+    const size_t least = strlen(whole) - 2;
+    for (size_t n = 0; n <= strlen(whole); n++) {
+        set(whole);
+        hex_length = n;
+        const uint32_t answer = read_hex(LENGTH);
+        if (n == least || n == least + 2) {
+            so(answer == SLOT_OK, "a text with its end record is read", (uint32_t)n);
+        } else {
+            so((answer == SLOT_HEX_UNSOUND || answer == SLOT_HEX_NO_END) && all(lent, LENGTH, 0), "a text that was cut off is refused", (uint32_t)n);
+        }
+    }
+}
+
+/* Records anywhere and one over another, of any size, case and line's end. */
+static void random_texts(void)
+{
+    static const char *const ends[] = {"\n", "\r\n"};
+    for (unsigned round = 0; round < 500; round++) {
+        const unsigned length = 16 + 4 * (random_word() % 61);
+        uint8_t expected[LENGTH] = {0};
+        set("");
+        for (unsigned left = random_word() % 24; left > 0; left--) {
+            const unsigned n = random_word() % (length < 255 ? length + 1 : 256), address = random_word() % (length - n + 1);
+            uint8_t data[255];
+            for (unsigned i = 0; i < n; i++) {
+                data[i] = (uint8_t)random_word();
+            }
+            add_record(random_word() % 2 ? upper_case : lower_case, 0, address, data, n);
+            add(ends[random_word() % 2]);
+            memcpy(expected + address, data, n);
+            if (random_word() % 8 == 0) {
+                add(":020000040003F7\n:00123400BA\r\n:020000040000fa\n");
+            }
+        }
+        add(END);
+        add(ends[random_word() % 2]);
+        add(random_word() % 2 ? "" : "and so on");
+        const uint32_t answer = read_hex(length);
+        so(answer == SLOT_OK && memcmp(lent, expected, length) == 0, "a text of records anywhere", answer);
+    }
+}
+
+/* One line of the image, which must be this text; the bytes behind it stay. */
+static void line_is(size_t length, uint32_t line, const char *text, size_t n, const char *claim)
+{
+    uint8_t out[SLOT_HEX_LINE + BEYOND];
+    uint32_t written = 99;
+    memset(out, JUNK, sizeof out);
+    const uint32_t answer = slot_hex_line(image, length, line, out, &written);
+    so(answer == SLOT_OK && written == n && memcmp(out, text, n) == 0 && all(out + n, sizeof out - n, JUNK), claim, line);
+}
+
+/* An image of this length, line by line, then read again. */
+static void round_trip(size_t length, uint32_t fill)
+{
+    static const uint32_t far_lines[] = {2, 3, 16, 4097, 65536, 1u << 28, (1u << 28) + 1, 1u << 31, 0xFFFFFFFE, 0xFFFFFFFF};
+    uint32_t line = 0;
+    for (size_t at = 0; at < length; at++) {
+        image[at] = fill < 256 ? (uint8_t)fill : (uint8_t)random_word();
+    }
+    memcpy(lent, image, length);
+    set("");
+    for (size_t at = 0; at < length; at += 16) {
+        const size_t begins = hex_length;
+        add_record(upper_case, 0, (unsigned)at, image + at, length - at < 16 ? (unsigned)(length - at) : 16);
+        add("\n");
+        line_is(length, line, hex + begins, hex_length - begins, "a line of data");
+        line++;
+    }
+    line_is(length, line, END "\n", 12, "then the end record");
+    add(END "\n");
+    line_is(length, line + 1, "", 0, "then nothing");
+    for (size_t i = 0; i < sizeof far_lines / sizeof *far_lines; i++) {
+        if (far_lines[i] > line) {
+            line_is(length, far_lines[i], "", 0, "nor far behind it");
+        }
+    }
+    so(memcmp(lent, image, length) == 0, "memory that is written is not written to", (uint32_t)length);
+    so(read_hex(length) == SLOT_OK && memcmp(lent, image, length) == 0, "what was written reads as the same memory", (uint32_t)length);
+}
+
+static void round_trips(void)
+{
+    static const size_t lengths[] = {1020, 1024, 4092, 4096, 32768, 65516, 65520, 65524, 65528, 65532, 65536};
+    for (size_t length = 16; length <= 320; length += 4) {
+        round_trip(length, 256);
+    }
+    for (size_t i = 0; i < sizeof lengths / sizeof *lengths; i++) {
+        round_trip(lengths[i], 256);
+    }
+    round_trip(20, 0);
+    round_trip(20, 255);
+    memset(image, 0, 16);
+    line_is(16, 0, ":1000000000000000000000000000000000000000F0\n", SLOT_HEX_LINE, "SLOT_HEX_LINE is a whole line");
+    memset(image, 0xAB, 20);
+    line_is(20, 1, ":04001000ABABABAB40\n", 20, "a shorter last line");
+}
+
+/* 1, for every line. */
+static void unwritten(void)
+{
+    static const size_t lengths[] = {0, 4, 12, 15, 17, 18, 19, 255, 65535, 65537, 65540};
+    static const uint32_t some_lines[] = {0, 1, 2, 16, 4096, 4097, 1u << 28, 0xFFFFFFFF};
+    for (size_t i = 0; i < sizeof lengths / sizeof *lengths; i++) {
+        for (size_t k = 0; k < sizeof some_lines / sizeof *some_lines; k++) {
+            uint8_t out[SLOT_HEX_LINE + BEYOND];
+            uint32_t written = 99;
+            memset(out, JUNK, sizeof out);
+            const uint32_t answer = slot_hex_line(image, lengths[i], some_lines[k], out, &written);
+            so(answer == SLOT_BAD_LENGTH && written == 0 && all(out, sizeof out, JUNK), "1 for every line, which leaves out as it was", (uint32_t)lengths[i]);
+        }
+    }
+}
+
+/* By the header's lines. */
+static void write_file(FILE *file, size_t length)
+{
+    uint8_t out[SLOT_HEX_LINE];
+    uint32_t written;
+    for (uint32_t line = 0; slot_hex_line(memory, length, line, out, &written) == SLOT_OK && written > 0; line++) {
+        fwrite(out, 1, written, file);
+    }
+}
+
+/* Likewise. */
+static void read_file(FILE *file, const uint32_t *registers, size_t length)
+{
+    static uint8_t text[1000000];
+    size_t text_length = fread(text, 1, sizeof text, file);
+    if (slot_hex_read(text, text_length, memory, length) == SLOT_OK) {
+        slot_core_start(core, registers, 0, 0, memory, length);
+    }
+}
+
+static void files(void)
+{
+    uint8_t before[LENGTH];
+    FILE *file = tmpfile();
+    so(file != NULL, "there is a file", 0);
+    if (file == NULL) {
+        return;
+    }
+    for (size_t at = 0; at < LENGTH; at++) {
+        memory[at] = (uint8_t)random_word();
+    }
+    memcpy(before, memory, LENGTH);
+    set("");
+    for (unsigned at = 0; at < LENGTH; at += 16) {
+        add_record(upper_case, 0, at, memory + at, 16);
+        add("\n");
+    }
+    add(END "\n");
+    write_file(file, LENGTH);
+    rewind(file);
+    so(fread(hex_before, 1, ROOM, file) == hex_length && memcmp(hex, hex_before, hex_length) == 0, "the header's lines write a whole file", 0);
+    rewind(file);
+    memset(memory, JUNK, LENGTH);
+    memset(core, JUNK, sizeof core);
+    read_file(file, zeros, LENGTH);
+    so(memcmp(memory, before, LENGTH) == 0, "the header's lines read it", 0);
+    so(core[SLOT_CORE_LENGTH] == LENGTH && core[SLOT_CORE_PHASE] == SLOT_PHASE_REFILL1 && core[SLOT_CORE_CYCLES] == 0, "and start a core", 0);
+    write_file(file, LENGTH - 2);
+    so(fgetc(file) == EOF, "a memory of another length makes no file", 0);
+    fclose(file);
+}
+
 int main(void)
 {
     so(slot_abi_2() == SLOT_ABI, "the archive's number is SLOT_ABI", slot_abi_2());
@@ -764,6 +1205,20 @@ int main(void)
     classes();
     multiplies();
     watched_images();
+    read_texts();
+    unsound_lines();
+    types();
+    sums();
+    exchanged(":100010000123456789ABCDEF1032547698BADCFEE8"); /* each digit at both places of a pair */
+    exchanged(":020000040000FA");
+    exchanged(END);
+    outside();
+    orders();
+    cut_off();
+    random_texts();
+    round_trips();
+    unwritten();
+    files();
     printf("%u passed, %u failed\n", passed, failed);
     return failed == 0 ? 0 : 1;
 }

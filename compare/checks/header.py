@@ -9,6 +9,8 @@ ABI = int(re.search(r"^#define SLOT_ABI ([0-9]+)$", (TOP / "include/slot_core.h"
 # What compare/header reads.
 READ = ["include", "examples/rust/src", "compare/driver/src", "compare/header", "compare/abi.txt", "crates", "VERSION", "CHANGES.md"]
 
+TEXT, MEMORY = "const uint8_t *text, size_t text_length", "uint8_t *memory, size_t length"
+
 # Wrong headers and sources that compare/header must refuse: the file, a text that stands there once, and another.
 WRONG = [
     ("a place of the core", "include/slot_core.h", "SLOT_CORE_STOP = 31", "SLOT_CORE_STOP = 30"),
@@ -19,21 +21,36 @@ WRONG = [
     ("a class", "include/slot_core.h", "SLOT_CLASS_BLOCK = 2", "SLOT_CLASS_BLOCK = 3"),
     ("a stop", "include/slot_core.h", "SLOT_STOP_OUTSIDE = 24", "SLOT_STOP_OUTSIDE = 25"),
     ("a refusal", "include/slot_core.h", "SLOT_TOO_MANY = 13", "SLOT_TOO_MANY = 12"),
+    ("a refusal of a length", "include/slot_core.h", "SLOT_BAD_LENGTH = 1,", "SLOT_BAD_LENGTH = 6,"),
+    ("a refusal of a text", "include/slot_core.h", "SLOT_HEX_UNSOUND = 41", "SLOT_HEX_UNSOUND = 42"),
+    ("a refusal of a text gone", "include/slot_core.h", "    SLOT_HEX_OUTSIDE = 42,", ""),
+    ("the bytes of a line", "include/slot_core.h", "SLOT_HEX_LINE = 44", "SLOT_HEX_LINE = 43"),
     ("an operation, which only the kept layout has", "include/slot_core.h", "SLOT_OPERATION_BIC = 14", "SLOT_OPERATION_BIC = 13"),
     ("a parameter less", "include/slot_core.h", "size_t length, uint64_t budget, uint64_t *used", "uint64_t budget, uint64_t *used"),
     ("a narrower parameter", "include/slot_core.h", "uint64_t count, uint64_t *used", "uint32_t count, uint64_t *used"),
     ("a parameter that is not const", "include/slot_core.h", "slot_word_write(const uint32_t *record", "slot_word_write(uint32_t *record"),
+    ("text and memory exchanged", "include/slot_core.h", f"{TEXT}, {MEMORY}", f"{MEMORY}, {TEXT}"),
+    ("a line's number behind its bytes", "include/slot_core.h", "uint32_t line, uint8_t *out", "uint8_t *out, uint32_t line"),
     ("a call gone", "include/slot_core.h", "void slot_word_read(uint32_t word, uint32_t *record);", ""),
     ("SLOT_ABI alone", "include/slot_core.h", f"#define SLOT_ABI {ABI}\n", f"#define SLOT_ABI {ABI + 1}\n"),
     ("the version", "include/slot_core.h", '#define SLOT_VERSION "', '#define SLOT_VERSION "1'),
     ("a place of the layout", "crates/core_arrays/specs/Places.antt", "core_place core_stop = 31", "core_place core_stop = 30"),
     ("a parameter of the source", "crates/slot/src/core_calls.rt", "    budget: u64,", "    budget: u32,"),
+    ("text and memory exchanged in the source", "crates/slot/src/hex_calls.rt", "text: &[u8], memory: &mut [u8]", "memory: &mut [u8], text: &[u8]"),
+    ("the bytes of a line in the source", "crates/slot/src/hex_calls.rt", "out: &mut [u8; 44]", "out: &mut [u8; 43]"),
+    ("bytes in the source that have no name", "crates/slot/src/hex_calls.rt", "out: &mut [u8; 44]", "to: &mut [u8; 44]"),
     ("a call more in the source", "crates/slot/src/abi.rt", f"fn slot_abi_{ABI}()", f"fn slot_abi_{ABI + 1}()"),
     ("the source's number", "crates/slot/specs/Abi.antt", f"abi = {ABI}\n", f"abi = {ABI + 1}\n"),
     ("a stop more in the source", "crates/stops/specs/Numbers.antt", "no_word = 21", "no_word = 21\nanother = 26"),
+    ("a refusal of a text in the source", "crates/intel_hex/specs/Numbers.antt", "unsound = 41\n", "unsound = 42\n"),
+    ("a refusal of a text more in the source", "crates/intel_hex/specs/Numbers.antt", "no_end = 43\n", "no_end = 43\nanother = 44\n"),
     ("a place of the Rust example", "examples/rust/src/slot.rs", "CORE_IX: usize = 21", "CORE_IX: usize = 20"),
     ("a parameter of the Rust example", "examples/rust/src/slot.rs", "budget: u64", "budget: u32"),
     ("an array of the comparison", "compare/driver/src/archive.rs", "PlainArray = [u32; 19]", "PlainArray = [u32; 20]"),
+    ("a line's bytes in the comparison", "compare/driver/src/hex_archive.rs", "HEX_LINE: usize = 44", "HEX_LINE: usize = 43"),
+    ("a parameter of the comparison", "compare/driver/src/hex_archive.rs", "text: *const u8", "text: *mut u8"),
+    ("a type in the comparison that C has not", "compare/driver/src/hex_archive.rs", "text: *const u8", "text: &[u8]"),
+    ("a declaration of the comparison that does not read", "compare/driver/src/hex_archive.rs", "fn slot_hex_read(", "fn slot_hex_read<'a>("),
 ]
 
 
@@ -43,7 +60,7 @@ def check_wrong(checks, folder):
         source = TOP / path
         (copy / path).parent.mkdir(parents=True, exist_ok=True)
         if source.is_dir():
-            shutil.copytree(source, copy / path, ignore=shutil.ignore_patterns("proofs", "must-fail", "target"))
+            shutil.copytree(source, copy / path, ignore=shutil.ignore_patterns("proofs", "must-fail", "out", "target"))
         else:
             shutil.copy(source, copy / path)
     right = run([copy / "compare/header"])
@@ -56,6 +73,17 @@ def check_wrong(checks, folder):
         (copy / path).write_text(kept)
         told = len(ended.stdout.splitlines()) > 1
         checks.check(f"compare/header refuses another: {name}", once and ended.returncode == 1 and told, ended.stdout + ended.stderr)
+
+
+def check_lines(checks):
+    """What the section on Intel HEX shows, its C and its records, is tried as it stands there, but for where a line begins."""
+    section = (TOP / "include/slot_core.h").read_text().split("---- images as Intel HEX")[-1].split("*/")[0]
+    shown = [re.sub(r"^ \*\s*", "", block, flags=re.MULTILINE) for block in re.findall(r"(?:^ \*     .*\n)+", section, re.MULTILINE)]
+    tried = re.sub(r"^\s+", "", (TOP / "compare/checks/header.c").read_text(), flags=re.MULTILINE)
+    records = [line.split()[0] for block in shown for line in block.splitlines() if line.startswith(":")]
+    missing = [block for block in shown if ";" in block and block not in tried] + [record for record in records if record not in tried]
+    all_there = len(shown) == 3 and len(records) == 3
+    checks.check("what the header shows of Intel HEX is tried", all_there and not missing, f"{len(shown)} parts, {len(records)} records\n" + "\n".join(missing))
 
 
 def check_archive(checks):
@@ -94,6 +122,7 @@ def check(checks, folder):
     usage = run([TOP / "compare/header", "foo"])
     checks.check("compare/header foo: usage, status 2", usage.returncode == 2 and "usage" in usage.stderr, usage.stderr)
     check_wrong(checks, folder)
+    check_lines(checks)
     checks.part("the archive")
     check_archive(checks)
     check_abi(checks, folder)

@@ -66,7 +66,7 @@ extern "C" {
 static ABI: unsafe extern "C" fn() -> c_uint = slot_abi_2;
 
 /// What results are filled with before a call, so that one left unwritten shows.
-const STALE: u32 = 0xA5A5_A5A5;
+pub(crate) const STALE: u32 = 0xA5A5_A5A5;
 const STALE_LONG: u64 = 0xA5A5_A5A5_A5A5_A5A5;
 
 /// The answer and the core.

@@ -13,6 +13,8 @@ pub enum Asked {
     Image(u64),
     /// The one rewritten image of this number.
     Writes(u64),
+    /// The one random Intel HEX file of this number.
+    Hex(u64),
 }
 
 impl Asked {
@@ -22,6 +24,7 @@ impl Asked {
             [seed] => number("SEED", seed).map(Asked::All),
             [word, image] if word == "image" => number("NUMBER", image).map(Asked::Image),
             [word, image] if word == "writes" => number("NUMBER", image).map(Asked::Writes),
+            [word, file] if word == "hex" => number("NUMBER", file).map(Asked::Hex),
             _ => Err(format!("no such arguments: {}", arguments.join(" "))),
         }
     }
@@ -34,6 +37,7 @@ impl fmt::Display for Asked {
             Asked::All(seed) => write!(out, "{seed}"),
             Asked::Image(number) => write!(out, "image {number}"),
             Asked::Writes(number) => write!(out, "writes {number}"),
+            Asked::Hex(number) => write!(out, "hex {number}"),
         }
     }
 }

@@ -3,7 +3,9 @@
 use crate::comparison::Compared;
 use crate::figures::grouped;
 use crate::pair::Pair;
+use interpreter::answers::FINE;
 use interpreter::pipeline::Core;
+use std::collections::BTreeMap;
 
 #[derive(Default)]
 pub struct Counts {
@@ -11,6 +13,7 @@ pub struct Counts {
     pub plain: Machines,
     pub writes: Writes,
     pub words: Words,
+    pub hex: Hex,
 }
 
 impl Counts {
@@ -25,6 +28,8 @@ impl Counts {
             (self.plain.used, "instructions of the plain machine"),
             (self.words.words, "words"),
             (self.words.records, "records of words"),
+            (self.hex.texts(), "Intel HEX texts"),
+            (self.hex.lines, "Intel HEX lines"),
         ];
         let shown: Vec<String> = totals
             .into_iter()
@@ -156,4 +161,39 @@ pub struct Words {
     /// What the writer answered: 0 with a word, or 5.
     pub written: u64,
     pub refused: u64,
+}
+
+/// Reader and writer of Intel HEX.
+#[derive(Default)]
+pub struct Hex {
+    pub directed: HexReads,
+    pub random: HexReads,
+    /// What the product wrote.
+    pub written: HexReads,
+    /// Memories that were to be written.
+    pub memories: u64,
+    /// Calls for a line: those that wrote one, those that wrote nothing, those refused.
+    pub lines: u64,
+    pub no_lines: u64,
+    pub refused: u64,
+}
+
+impl Hex {
+    pub fn texts(&self) -> u64 {
+        self.directed.texts + self.random.texts + self.written.texts
+    }
+
+    /// What a call for a line answered, and how long the line was.
+    pub fn wrote(&mut self, answer: u32, written: u32) {
+        self.refused += u64::from(answer != FINE);
+        self.lines += u64::from(answer == FINE && written > 0);
+        self.no_lines += u64::from(answer == FINE && written == 0);
+    }
+}
+
+/// Texts of one kind.
+#[derive(Default)]
+pub struct HexReads {
+    pub texts: u64,
+    pub answers: BTreeMap<u32, u64>,
 }

@@ -1,5 +1,6 @@
 //! What is printed where the two differ.
 
+use crate::figures::grouped;
 use interpreter::programs::Program;
 use std::fmt;
 
@@ -80,4 +81,30 @@ pub fn show(program: &Program) -> String {
         program.words.len(),
         list(&program.words[..used])
     )
+}
+
+// How many bytes of a text are printed, if it has more.
+const FIRST: usize = 1600;
+const LAST: usize = 400;
+
+/// The bytes of a text, a line of it a row; of a long one the first and the last.
+pub fn readable(text: &[u8]) -> String {
+    match text.len().checked_sub(FIRST + LAST) {
+        None | Some(0) => rows(text),
+        Some(between) => {
+            let (first, last) = (&text[..FIRST], &text[FIRST + between..]);
+            let between = grouped(between as u64);
+            format!("{}    ... {between} bytes ...\n{}", rows(first), rows(last))
+        }
+    }
+}
+
+fn rows(text: &[u8]) -> String {
+    text.split_inclusive(|&byte| byte == b'\n')
+        .map(row)
+        .collect()
+}
+
+pub fn row(line: &[u8]) -> String {
+    format!("    {}\n", line.escape_ascii())
 }

@@ -102,7 +102,7 @@ impl Machine for Plain {
 }
 
 /// Bytes after the memory, which a call may be lent wrongly and which must never change otherwise.
-const BEYOND: usize = 8;
+pub(crate) const BEYOND: usize = 8;
 
 #[derive(Clone)]
 pub struct Pair<M: Machine> {

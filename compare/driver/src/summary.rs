@@ -4,6 +4,7 @@ use crate::arguments::Asked;
 use crate::comparison::{Comparison, Place};
 use crate::counts::{Counts, Machines, Settles, Words, Writes, LONG};
 use crate::figures::grouped;
+use crate::hex_summary;
 
 /// What the answers mean, of all calls together.
 const ANSWERS: [(usize, &str); 14] = [
@@ -25,14 +26,26 @@ const ANSWERS: [(usize, &str); 14] = [
 
 pub fn show(comparison: &Comparison) -> String {
     let counts = &comparison.counts;
-    let mut sections = vec![
-        format!(
-            "What compare/run {} compared. After every call product and interpreter were held to each other:\n\
-             the answer, the cycles or instructions used, every word of the record, and the memory.",
-            comparison.asked
-        ),
-        machines(&counts.core, &counts.plain),
-    ];
+    let asked = comparison.asked;
+    let mut sections = vec![format!("What compare/run {asked} compared.")];
+    if counts.core.starts > 0 {
+        sections.extend(of_machines(counts));
+    }
+    if counts.hex.texts() > 0 {
+        sections.push(hex_summary::show(&counts.hex));
+    }
+    if comparison.firsts.len() > 1 {
+        sections.push(firsts(comparison));
+    }
+    sections.push(verdict(comparison));
+    format!("\n{}", sections.join("\n\n"))
+}
+
+/// Of the core, the plain machine and words.
+fn of_machines(counts: &Counts) -> Vec<String> {
+    let held = "After every call product and interpreter were held to each other: the answer, the cycles or\n\
+                instructions used, every word of the record, and the memory.";
+    let mut sections = vec![held.to_string(), machines(&counts.core, &counts.plain)];
     if counts.words.words > 0 {
         sections.push(words(&counts.words));
     }
@@ -43,11 +56,7 @@ pub fn show(comparison: &Comparison) -> String {
     if counts.writes.images > 0 {
         sections.push(rewritten(&counts.writes));
     }
-    if comparison.firsts.len() > 1 {
-        sections.push(firsts(comparison));
-    }
-    sections.push(verdict(comparison));
-    format!("\n{}", sections.join("\n\n"))
+    sections
 }
 
 fn machines(core: &Machines, plain: &Machines) -> String {

@@ -1,4 +1,4 @@
-//! The paper's numbers: what start and run answer, and what a record's stop holds.
+//! The paper's numbers: what start, run and the reader of HEX answer, and what a record's stop holds.
 
 /// The budget is spent, or the start is accepted.
 pub const FINE: u32 = 0;
@@ -17,6 +17,10 @@ pub const OTHER: u32 = 22;
 pub const FORBIDDEN: u32 = 23;
 pub const OUTSIDE: u32 = 24;
 pub const FETCHED: u32 = 25;
+
+pub const UNSOUND: u32 = 41;
+pub const BEYOND: u32 = 42;
+pub const NO_END: u32 = 43;
 
 /// The most that one run may be asked to do, in cycles or in instructions.
 pub const MOST_BUDGET: u64 = 1_000_000;

@@ -8,6 +8,8 @@ pub mod arm;
 pub mod assembler;
 pub mod core_vectors;
 pub mod durations;
+pub mod hex;
+pub mod hex_files;
 pub mod memory;
 pub mod pipeline;
 pub mod plain;

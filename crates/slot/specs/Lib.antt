@@ -3,3 +3,4 @@ pub mod Calls
 pub mod Kept
 pub mod Refusals
 pub mod Lists
+pub mod Hex

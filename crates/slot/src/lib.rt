@@ -3,6 +3,7 @@
 
 mod abi;
 mod core_calls;
+mod hex_calls;
 mod kept;
 mod plain_calls;
 mod record_calls;

@@ -1,5 +1,5 @@
 // A hexadecimal digit: the byte of a value, and the value of a byte.
-ghost use Rattle.std.specs.Prelude.{◌≡◌, ◌<◌, ◌%◌, IfSome, unwrap_or};
+ghost use Rattle.std.specs.Prelude.{◌≡◌, ◌≤◌, ◌%◌};
 ghost use Rattle.text.specs.Digit.{digit, value_of};
 
 // The lowest digit of a number, upper case.
@@ -10,16 +10,16 @@ pub fn byte_of(n: u32) -> u8
     if d < 10 { b'0' + d } else { b'A' + (d - 10) }
 }
 
-// Of either case; none for a byte that is no digit.
+// Of either case; 16 for a byte that is no digit.
 #[tactic(auto, unfolding(crate::specs::Digit::counted))]
-pub fn value_of(byte: u8) -> Option<u8>
-    ensures value { unwrap_or result 16 ≡ value_of byte }
-    ensures in_range { IfSome result (λ value. value < 16) }
+pub fn value_of(byte: u8) -> u8
+    ensures value { result ≡ value_of byte }
+    ensures upper_bound { result ≤ 16 }
 {
     match byte {
-        b'0'..=b'9' => Some(byte - b'0'),
-        b'A'..=b'F' => Some(byte - b'A' + 10),
-        b'a'..=b'f' => Some(byte - b'a' + 10),
-        _ => None,
+        b'0'..=b'9' => byte - b'0',
+        b'A'..=b'F' => byte - b'A' + 10,
+        b'a'..=b'f' => byte - b'a' + 10,
+        _ => 16,
     }
 }

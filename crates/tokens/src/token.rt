@@ -65,5 +65,5 @@ fn digit(byte: u8) -> u8
     ensures value { result ≡ value_of byte % 16 }
     ensures upper_bound { result ≤ 15 }
 {
-    value_of(byte).unwrap_or(0)
+    value_of(byte) % 16
 }

@@ -5,8 +5,11 @@
 //! bench once IMAGE CYCLES [interpreter]  one run of the core, for a counter of instructions
 //! bench steps IMAGE CALLS                calls of budget 1 of the product, for the same
 //! bench settles IMAGE CALLS              so many of these, and a settle after each, for the same
+//! bench hex                              the table of Intel HEX alone
+//! bench hex READS [interpreter]          so many readings of an Intel HEX text, for the same
 
 use driver::archive::{core_run, core_settle, core_start, plain_run, plain_start, CoreArray};
+use driver::hex_times::{self, Reader};
 use driver::images;
 use driver::records::core_of;
 use interpreter::durations::duration;
@@ -202,6 +205,8 @@ fn tables() {
     by_budgets();
     println!();
     after_writes();
+    println!();
+    hex_times::table(ROUNDS);
 }
 
 fn by_cycles(timed: &[(&str, [Timed; 4])]) {
@@ -338,6 +343,16 @@ fn counted(name: &str, cycles: &str, run: impl Fn(&Program, u64) -> Timed) -> Ex
     ExitCode::SUCCESS
 }
 
+/// So many readings of the same text, likewise.
+fn counted_hex(reader: Reader, reads: &str) -> ExitCode {
+    let Ok(reads) = reads.parse() else {
+        eprintln!("READS must be a number, not '{reads}'");
+        return ExitCode::from(2);
+    };
+    println!("bytes {}", hex_times::counted(reader, reads));
+    ExitCode::SUCCESS
+}
+
 fn main() -> ExitCode {
     let arguments: Vec<String> = std::env::args().skip(1).collect();
     let words: Vec<&str> = arguments.iter().map(String::as_str).collect();
@@ -354,10 +369,13 @@ fn main() -> ExitCode {
             return counted(name, calls, |program, calls| product(program, calls, 1));
         }
         ["settles", name, calls] => return counted(name, calls, product_settles),
+        ["hex"] => hex_times::table(ROUNDS),
+        ["hex", reads] => return counted_hex(hex_times::product, reads),
+        ["hex", reads, "interpreter"] => return counted_hex(hex_times::interpreter, reads),
         _ => {
             eprintln!(
                 "usage: bench [long | once IMAGE CYCLES [interpreter] | steps IMAGE CALLS \
-                 | settles IMAGE CALLS]"
+                 | settles IMAGE CALLS | hex [READS [interpreter]]]"
             );
             return ExitCode::from(2);
         }

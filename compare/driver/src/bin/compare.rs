@@ -4,7 +4,8 @@
 use driver::arguments::Asked;
 use driver::comparison::Comparison;
 use driver::{
-    directed, multiplies, random_images, refills, rewritten, settles, starts, summary, sums, words,
+    directed, hex, multiplies, random_images, refills, rewritten, settles, starts, summary, sums,
+    words,
 };
 use interpreter::pipeline::Core;
 use interpreter::plain::Plain;
@@ -12,7 +13,7 @@ use std::process::ExitCode;
 
 type Part = fn(&mut Comparison, u64);
 
-const PARTS: [Part; 10] = [
+const PARTS: [Part; 11] = [
     |comparison, _| starts::all::<Core>(comparison),
     |comparison, _| starts::all::<Plain>(comparison),
     |comparison, _| directed::all(comparison),
@@ -23,6 +24,7 @@ const PARTS: [Part; 10] = [
     random_images::all,
     rewritten::all,
     words::all,
+    hex::all,
 ];
 
 fn main() -> ExitCode {
@@ -62,6 +64,10 @@ fn compare(asked: Asked) -> Comparison {
         Asked::Writes(number) => {
             println!("rewritten image {number} alone");
             rewritten::one(&mut comparison, number);
+        }
+        Asked::Hex(number) => {
+            println!("random Intel HEX file {number} alone");
+            hex::one(&mut comparison, number);
         }
     }
     comparison

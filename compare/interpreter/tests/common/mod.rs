@@ -4,6 +4,7 @@
 
 pub mod records;
 pub mod slow;
+pub mod slow_hex;
 pub mod table;
 
 use interpreter::pipeline::{Core, Phase};

@@ -1,0 +1,12 @@
+pub mod Pairs
+pub mod Heads
+pub mod FirstLine
+pub mod Cuts
+pub mod Reading
+pub mod Written
+pub mod ReadBack
+pub mod RoundTrip
+pub mod Marked
+pub mod Beyond
+pub mod Refusals
+pub mod Told

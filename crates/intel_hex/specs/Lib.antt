@@ -1,0 +1,11 @@
+pub mod Lines
+pub mod Record
+pub mod Numbers
+pub mod Reader
+pub mod Walk
+pub mod Writer
+pub mod RoundTrip
+pub mod Named
+pub mod Refusals
+pub mod Marked
+pub mod Message

@@ -1,0 +1,17 @@
+-- Reading a written file yields the same memory.
+use Rattle.std.specs.Prelude.{ℕ, zero, suc, ◌<◌, ◌≡◌, List, [], ◌++◌, length}
+use Rattle.memory.specs.Lanes as lanes
+use Rattle.memory.specs.Lengths.{GoodLength}
+use Rattle.intel_hex.specs.Reader.{answered, read}
+use Rattle.intel_hex.specs.Writer.{rows, line}
+
+-- the first n lines, one after another
+unfoldable pub file : List ℕ → ℕ → List ℕ
+file mem zero = []
+file mem (suc n) = file mem n ++ line mem n
+
+-- every memory of an allowed length, written up to its end record or further, and read into any memory of that length
+abbrev pub RoundTrip : Type 0
+RoundTrip =
+    (mem lent : List ℕ) (n : ℕ) → lanes.Bytes mem → GoodLength (length mem) → length lent ≡ length mem → rows (length mem) < n
+    → read (file mem n) lent ≡ answered 0 0 mem

@@ -1,0 +1,24 @@
+// Digit pairs: the bytes that they stand for, taken in one walk.
+ghost use Rattle.std.specs.Prelude.{◌≡◌, ◌*◌, ◌%◌, true, false, length, sum, MatchOption};
+ghost use Rattle.intel_hex.specs.Record.{all_digits, bytes_of};
+
+use text::digit::value_of;
+
+// Puts the bytes of pairs into memory, and answers their sum, modulo 256; none where one is no digit. That is asked after the walk: its turns
+// have no branch, for digits are hard to foretell.
+pub fn decode(digits: &[u8], into: &mut [u8]) -> Option<u8>
+    requires { length digits.now ≡ 2 * length into.old }
+    ensures sums { MatchOption result (all_digits digits.now ≡ false) (λ s. (all_digits digits.now ≡ true) × (s ≡ sum (bytes_of digits.now) % 256) × (into.new ≡ bytes_of digits.now)) }
+{
+    let mut sum = 0u8;
+    let mut worst = 0u8;
+    for k in 0..into.len() {
+        let high = value_of(digits[2 * k]);
+        let low = value_of(digits[2 * k + 1]);
+        let byte = high.wrapping_mul(16).wrapping_add(low);
+        worst = worst.max(high).max(low);
+        sum = sum.wrapping_add(byte);
+        into[k] = byte;
+    }
+    if worst < 16 { Some(sum) } else { None }
+}
