@@ -2,6 +2,9 @@
 import os
 import random
 import shutil
+import signal
+import subprocess
+import time
 
 from harness import TOP, run
 
@@ -57,11 +60,12 @@ def written(raw):
     return text([*records(raw), END])
 
 
-def refusal(number, line=0):
+def refusal(number, line=0, length=None):
+    """What is said of a refusal; ./hex says of data beyond the memory how long that is."""
     meanings = {
         1: "an image has 16 to 65,536 bytes, a multiple of 4",
         41: f"line {line} is not a sound record of type 00, 01 or 04",
-        42: f"line {line} has data beyond the memory",
+        42: f"line {line} has data beyond the memory" + (f" of {length} bytes" if length else ""),
         43: f"no end record, the text ends after line {line}",
     }
     return f"refused with {number}: {meanings[number]}\n"
@@ -103,8 +107,8 @@ REFUSED_TEXTS = [
     ("a line without its colon", [], text([ZEROS, ZEROS[1:], END]), 41, 2),
     ("a letter that is no digit", [], text([ZEROS, ZEROS[:-2] + "FG", END]), 41, 2),
     ("half a byte", [], text([ZEROS, ZEROS[:-1], END]), 41, 2),
-    ("a byte less than counted", [], text([ZEROS, ":0400000000FC", END]), 41, 2),
-    ("a byte more than counted", [], text([ZEROS, ":0400000000000000" "00FC", END]), 41, 2),
+    ("fewer bytes than counted", [], text([ZEROS, ":0400000000FC", END]), 41, 2),
+    ("more bytes than counted", [], text([ZEROS, ":040000000000000000FC", END]), 41, 2),
     ("lines that end in CR", [], text([ZEROS, END], "\r"), 41, 1),
     ("an end record with an address", [], text([ZEROS, record(1, 1)]), 41, 2),
     ("a type 04 line with a byte of data", [], text([ZEROS, record(4, 0, b"\0"), END]), 41, 2),
@@ -122,7 +126,10 @@ REFUSED_TEXTS = [
 # name, words in a folder where raw, written and a folder are, what standard error's one line must have
 MISTAKES = [
     ("neither read nor write", ["raw", "kept"], "raw is neither read nor write"),
-    ("a file behind no command", ["--length", "16", "written"], "--length is neither"),
+    ("a command without a name", ["", "raw"], "command's name is empty"),
+    ("--help with more", ["--help", "read"], "--help stands alone"),
+    ("--version with more", ["--version", "read"], "--version stands alone"),
+    ("an option before the command", ["--length", "16", "written"], "--length is neither"),
     ("an option that is none", ["read", "--size", "16", "written"], "no option --size"),
     ("an option that is none, with write", ["write", "-x", "raw"], "no option -x"),
     ("--length with write", ["write", "--length", "16", "raw"], "--length goes with read"),
@@ -193,11 +200,10 @@ def check_round_trips(checks, folder):
     images = [(f"{length} bytes", generator.randbytes(length)) for length in LENGTHS]
     for name, raw in [*images, ("zeros", bytes(1024)), ("bytes of ones", b"\xff" * 1024)]:
         (folder / "image").write_bytes(raw)
-        check_made(checks, f"hex write: {name}", hexed(folder, ["write", "image", "text"]), b"")
-        (folder / "text").touch()
-        came = (folder / "text").read_bytes()
-        checks.check(f"hex write: the text of {name}", came == written(raw), f"{len(came)} bytes\n{came[:200]}")
-        check_made(checks, f"hex read: the text of {name}", hexed(folder, ["read", "--length", len(raw), "text"]), raw)
+        came = hexed(folder, ["write", "image"])
+        check_made(checks, f"hex write: {name}", came, written(raw))
+        (folder / "text").write_bytes(came[1])
+        check_made(checks, f"hex read: {name} back", hexed(folder, ["read", "--length", len(raw), "text"]), raw)
 
 
 def check_texts(checks, folder):
@@ -213,11 +219,18 @@ def check_objcopy(checks, folder):
         return
     for name, raw in [("countdown", COUNTDOWN), ("sender", SAMPLES[1].read_bytes()), ("65,536 bytes", random.Random(2).randbytes(65536))]:
         (folder / "image").write_bytes(raw)
-        checks.command(f"objcopy writes {name}", ["objcopy", "-I", "binary", "-O", "ihex", "image", "text"], cwd=folder)
-        check_made(checks, f"hex read: objcopy's text of {name}", hexed(folder, ["read", "--length", len(raw), "text"]), raw)
-        check_made(checks, f"hex write: {name} for objcopy", hexed(folder, ["write", "image", "text"]), b"")
-        checks.command(f"objcopy reads {name}", ["objcopy", "-I", "ihex", "-O", "binary", "text", "back"], cwd=folder)
-        checks.check(f"objcopy reads {name} as it was", (folder / "back").read_bytes() == raw)
+        if checks.command(f"objcopy writes {name}", ["objcopy", "-I", "binary", "-O", "ihex", "image", "text"], cwd=folder):
+            check_made(checks, f"hex read: {name} by objcopy", hexed(folder, ["read", "--length", len(raw), "text"]), raw)
+        (folder / "text").write_bytes(hexed(folder, ["write", "image"])[1])
+        if checks.command(f"objcopy reads {name}", ["objcopy", "-I", "ihex", "-O", "binary", "text", "back"], cwd=folder):
+            checks.check(f"objcopy reads {name} as it is", (folder / "back").read_bytes() == raw)
+    # A start that is not 0 is a record of type 03 or 05, right behind the one of the image.
+    (folder / "image").write_bytes(COUNTDOWN)
+    read, refused = (0, COUNTDOWN, ""), (1, b"", f"hex: {refusal(41, 2)}")
+    for start, came in [("0", read), ("0x100", refused), ("0x200000", refused)]:
+        if checks.command(f"objcopy writes a start of {start}", ["objcopy", "-I", "binary", "-O", "ihex", "--set-start", start, "image", "text"], cwd=folder):
+            ended = hexed(folder, ["read", "--length", "16", "text"])
+            checks.check(f"hex read: objcopy's start of {start} is {'read' if came == read else 'refused'}", ended == came, str(ended))
 
 
 def check_refused(checks, folder, name, words, status, told):
@@ -235,7 +248,7 @@ def check_refused(checks, folder, name, words, status, told):
 def check_refusals(checks, folder):
     for name, options, given, number, line in REFUSED_TEXTS:
         (folder / "text").write_bytes(given)
-        check_refused(checks, folder, f"{name} is refused with {number}", ["read", *options, "text"], 1, refusal(number, line))
+        check_refused(checks, folder, f"{name} is refused with {number}", ["read", *options, "text"], 1, refusal(number, line, options[1] if options else 65536))
     for length in ("18", "0", "12", "65537", "65540", "4294967312", "99999999999", "9" * 100):
         check_refused(checks, folder, f"--length {length[:12]} is refused with 1", ["read", "--length", length, "written"], 1, refusal(1))
     for length in (0, 4, 12, 15, 17, 18, 65534, 65537, 65540, 200000):
@@ -302,14 +315,44 @@ def check_outputs(checks, folder):
         checks.check(f"hex {words[0]}: with no output at all", (ended.returncode, ended.stderr) == (2, told), ended.stderr)
 
 
+def stopped(words, by, temporary, **options):
+    """Runs a command that waits for its input, sends a signal to it and to what it runs, and gives its status, its output and what it leaves."""
+    # A shell cannot trap a signal that was ignored before it began, as this one is behind `&`.
+    heeded = {"start_new_session": True, "preexec_fn": lambda: signal.signal(by, signal.SIG_DFL)}
+    env = {**os.environ, "TMPDIR": str(temporary)}
+    with subprocess.Popen(words, env=env, stdout=subprocess.PIPE, stderr=subprocess.STDOUT, **heeded, **options) as process:
+        ends = time.monotonic() + 10
+        # It has two temporary files where it waits.
+        while process.poll() is None and len(os.listdir(temporary)) < 2 and time.monotonic() < ends:
+            time.sleep(0.01)
+        if process.poll() is None:
+            os.killpg(process.pid, by)
+        out = process.communicate()[0]
+    return process.returncode, out, os.listdir(temporary)
+
+
+SIGNALS = [("Ctrl-C", signal.SIGINT, 130), ("SIGTERM", signal.SIGTERM, 143)]
+
+
 def check_temporary(checks, folder):
-    """However a run ends by itself, it leaves no temporary file."""
+    """However a run ends, it leaves no temporary file."""
     temporary = folder / "temporary"
     temporary.mkdir()
-    for words, status in [(["read", "written"], 0), (["write", "raw"], 0), (["read", "raw"], 1), (["write", "folder/empty"], 1), (["read", "written", "/dev/full"], 2), (["read", "/dev/zero"], 2)]:
-        came = hexed(folder, words, env={"TMPDIR": str(temporary)})
-        left = os.listdir(temporary)
-        checks.check(f"hex {' '.join(words)}: status {status}, and no temporary file is left", came[0] == status and not left, f"{came[0]}\n{came[2]}{left}")
+    done, refused, failed = [["read", "written"], ["write", "raw"]], [["read", "raw"], ["write", "empty"]], [["read", "written", "/dev/full"], ["read", "/dev/zero"]]
+    for status, uses in enumerate([done, refused, failed]):
+        for words in uses:
+            came = hexed(folder, words, env={"TMPDIR": str(temporary)})
+            left = os.listdir(temporary)
+            checks.check(f"hex {' '.join(words)}: no temporary file is left", came[0] == status and not left, f"{came[0]}\n{came[2]}{left}")
+    kept = folder / "kept"
+    for what in ("read", "write"):
+        for name, by, status in SIGNALS:
+            kept.write_bytes(b"kept")
+            reader, writer = os.pipe()
+            came = stopped([HEX, what, "-", kept], by, temporary, stdin=reader)
+            os.close(reader)
+            os.close(writer)
+            checks.check(f"hex {what}: {name} leaves no temporary file, and the output as it was", came == (status, b"", []) and kept.read_bytes() == b"kept", str(came))
 
 
 def check(checks, folder):
@@ -320,7 +363,7 @@ def check(checks, folder):
     (folder / "raw").write_bytes(COUNTDOWN)
     (folder / "written").write_bytes(written(COUNTDOWN))
     (folder / "folder").mkdir()
-    (folder / "folder/empty").touch()
+    (folder / "empty").touch()
     check_ways(checks, folder)
     check_lengths(checks, folder)
     check_round_trips(checks, folder)

@@ -13,7 +13,7 @@ use Rattle.memory.specs.Lanes as lanes
 use Rattle.memory.proofs.Lengths.{length-good}
 use Rattle.intel_hex.specs.Record.{Bytes, End}
 use Rattle.intel_hex.specs.Reader.{answered, zeros, place, over, records, read_on, read}
-use Rattle.intel_hex.specs.Writer.{row, rows, record_line, line}
+use Rattle.intel_hex.specs.Writer.{row, rows, record_line, line, write}
 use Rattle.intel_hex.specs.RoundTrip.{file, RoundTrip}
 use Rattle.intel_hex.proofs.Heads.{read-inside, read-end}
 use Rattle.intel_hex.proofs.ReadBack.{Small, data-back, end-back}
@@ -42,7 +42,7 @@ bytes-drop n mem b k = rw (get_or-drop n mem k 0) (b (n + k))
 
 from : List ℕ → ℕ → ℕ → List ℕ
 from mem k zero = []
-from mem k (suc m) = line mem k ++ from mem (suc k) m
+from mem k (suc m) = (write mem k).text ++ from mem (suc k) m
 
 file-from : (mem : List ℕ) (k m : ℕ) → file mem k ++ from mem k m ≡ file mem (k + m)
 unfolding file from
@@ -51,7 +51,7 @@ file-from mem k zero =
     rw none (append-nil (file mem k))
 file-from mem k (suc m) =
     let more : k + suc m ≡ suc k + m = omega arith in
-    rw more (sym (append_assoc (file mem k) (line mem k) (from mem (suc k) m)) ∙ file-from mem (suc k) m)
+    rw more (sym (append_assoc (file mem k) (write mem k).text (from mem (suc k) m)) ∙ file-from mem (suc k) m)
 
 from-start : (mem : List ℕ) (n : ℕ) → file mem n ≡ from mem 0 n
 unfolding file
@@ -75,13 +75,13 @@ module _ (mem : List ℕ) (b : lanes.Bytes mem) (good : GoodLength (length mem))
   row-length : (k : ℕ) → length (bytes_at k) ≡ min 16 (length mem - row * k)
   row-length k = length-take row (drop (row * k) mem) ∙ ap (min 16) (length-drop (row * k) mem)
 
-  data-line : (k : ℕ) → k < rows (length mem) → line mem k ≡ record_line 0 (row * k) (bytes_at k)
-  unfolding line
-  data-line k h = rw (lt-ltb k (rows (length mem)) h) refl
+  data-line : (k : ℕ) → k < rows (length mem) → (write mem k).text ≡ record_line 0 (row * k) (bytes_at k)
+  unfolding write line
+  data-line k h = rw (length-good (length mem) good, lt-ltb k (rows (length mem)) h) refl
 
-  end-line : line mem (rows (length mem)) ≡ record_line 1 0 []
-  unfolding line
-  end-line = rw (le-ltb (rows (length mem)) (rows (length mem)) (omega arith), eq-eqb (rows (length mem)) (rows (length mem)) refl) refl
+  end-line : (write mem (rows (length mem))).text ≡ record_line 1 0 []
+  unfolding write line
+  end-line = rw (length-good (length mem) good, le-ltb (rows (length mem)) (rows (length mem)) (omega arith), eq-eqb (rows (length mem)) (rows (length mem)) refl) refl
 
   filled-length : (k : ℕ) → length (filled k) ≡ length mem
   filled-length k =

@@ -3,12 +3,12 @@ use Rattle.std.specs.Prelude.{ℕ, zero, suc, ◌<◌, ◌≡◌, List, [], ◌+
 use Rattle.memory.specs.Lanes as lanes
 use Rattle.memory.specs.Lengths.{GoodLength}
 use Rattle.intel_hex.specs.Reader.{answered, read}
-use Rattle.intel_hex.specs.Writer.{rows, line}
+use Rattle.intel_hex.specs.Writer.{rows, write}
 
--- the first n lines, one after another
+-- what the writer hands back for the first n line numbers, one after another
 unfoldable pub file : List ℕ → ℕ → List ℕ
 file mem zero = []
-file mem (suc n) = file mem n ++ line mem n
+file mem (suc n) = file mem n ++ (write mem n).text
 
 -- every memory of an allowed length, written up to its end record or further, and read into any memory of that length
 abbrev pub RoundTrip : Type 0
