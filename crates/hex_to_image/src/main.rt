@@ -1,30 +1,26 @@
 // Intel HEX from standard input as a raw image on standard output. An argument is the image's length; without one it is the longest.
-// Status 1: the text or the length is refused, and standard error says why; 2: the input could not be read, or the output not written.
+// Status 1: the length or the text is refused, and standard error says why; 2: the input could not be read, or the output not written.
 #![tactic(auto)]
 
 use intel_hex::message::message;
 use intel_hex::reader::read;
 use intel_hex::refused::Refusal;
-use memory::length::MOST_BYTES;
+use memory::length::{MOST_BYTES, length_is_bad};
 use std::env;
 use std::io::{self, Read, Write};
 use std::process::ExitCode;
 
-// A longer text is not read, so that an endless input ends. The longest image with one byte to a record takes a sixtieth of it.
+// A longer text is not read, so that an endless input ends. The longest image with one byte to a record takes less than a sixtieth.
 const MOST_TEXT: usize = 64 * 1024 * 1024;
 
-// The length that an argument asks for; nothing where it is no number up to the longest.
-fn length(argument: &str) -> Option<usize> {
-    match argument.parse::<u32>() {
-        Ok(length) if length as usize <= MOST_BYTES => Some(length as usize),
-        _ => None,
-    }
-}
-
+// The length asked for; nothing where it is no length of a memory.
 fn asked(rt: &HostRuntime) -> io::Result<Option<usize>> {
-    match env::args(rt)?.nth(1) {
-        Some(argument) => Ok(length(argument.as_str())),
-        None => Ok(Some(MOST_BYTES)),
+    let Some(argument) = env::args(rt)?.nth(1) else {
+        return Ok(Some(MOST_BYTES));
+    };
+    match argument.as_str().parse::<u32>() {
+        Ok(length) if !length_is_bad(length as usize) => Ok(Some(length as usize)),
+        _ => Ok(None),
     }
 }
 

@@ -4,11 +4,12 @@
 
 use intel_hex::message::message;
 use intel_hex::writer::write;
+use memory::length::MOST_BYTES;
 use std::io::{self, BufWriter, Read, Write};
 use std::process::ExitCode;
 
 // A byte more than the longest image, so that a longer one shows.
-const MOST: u64 = 65537;
+const MOST: u64 = MOST_BYTES as u64 + 1;
 
 fn run(rt: &HostRuntime) -> io::Result<ExitCode> {
     let mut image = Vec::new(rt.alloc());

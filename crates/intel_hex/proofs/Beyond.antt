@@ -13,7 +13,7 @@ use Rattle.bits.specs.Choice.{pick}
 use Rattle.intel_hex.specs.Reader.{beyond, over}
 use Rattle.intel_hex.specs.Named.{named, Beyond}
 use Rattle.intel_hex.proofs.FirstLine.{both}
-use Rattle.intel_hex.proofs.Heads.{over-none, over-length}
+use Rattle.intel_hex.proofs.Over.{over-none, over-length}
 
 pub beyond-is : (at : ℕ) (bytes mem : List ℕ) → Beyond at bytes mem
 beyond-is at bytes mem = record { some = some; all = all }

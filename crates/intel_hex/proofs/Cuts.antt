@@ -1,4 +1,4 @@
--- Where a first line's count says that it ends, it is the first line, or that is no sound record. Assumes nothing.
+-- The line up to where its count says is the first line of the text, or the first line is unsound. Assumes nothing.
 use mathlib.Core.Path.{◌≡◌, refl, sym, ap, subst, ◌∙◌}
 use mathlib.Core.Bool.{Bool, true, false, ◌&&◌, false≢true}
 use mathlib.Core.List.{List, [], ◌∷◌, ◌++◌, map}
@@ -12,7 +12,7 @@ use Rattle.bits.specs.Choice.{pick}
 use Rattle.intel_hex.specs.Lines.{line_feed, carriage_return, lines}
 use Rattle.intel_hex.specs.Record.{Unsound, colon, is_digit, all_digits, bytes_of, record_bytes, count_in, well_formed, record_of}
 use Rattle.intel_hex.specs.Reader.{records}
-use Rattle.intel_hex.specs.Walk.{counted, begins, count_at, end_at, Leads}
+use Rattle.intel_hex.specs.Walk.{meaning, counted_record, begins, count_at, end_at, Leads}
 use Rattle.intel_hex.proofs.FirstLine.{Ended, by_the_text, by_line_feed, by_both, Split, split, both, plain-lines}
 
 -- ---- a line that is well formed, by its first three bytes
@@ -178,8 +178,8 @@ module _ (text : List ℕ) (count n : ℕ) (b : begins text ≡ true) (counts : 
   formed-line : all_digits digits ≡ true → Formed line
   formed-line all = record { starts = refl; digits = all-digits ∙ all; long = omega (arith, line-length, long, counts) }
 
-  says : all_digits digits ≡ true → record_of line ≡ counted count digits
-  unfolding record_of bytes_of
+  says : all_digits digits ≡ true → record_of line ≡ counted_record count digits
+  unfolding record_of bytes_of meaning
   says all = rw (well line (formed-line all), all, counts) refl
 
   -- it is the first line, where all behind the colon are digits
@@ -189,7 +189,7 @@ module _ (text : List ℕ) (count n : ℕ) (b : begins text ≡ true) (counts : 
       ap lines (sym (take-append-drop n text)) ∙ ap (λ x. lines (x ++ drop n text)) line-is
       ∙ plain-lines colon (drop 1 line) (drop n text) (drop (n + e) text) (refl, refl) (all-digits ∙ all) ended
 
-  sound-line : (e : ℕ) → end_at (drop n text) ≡ e → e ≤ 2 → all_digits digits ≡ true → Leads text (counted count digits) (n + e)
+  sound-line : (e : ℕ) → end_at (drop n text) ≡ e → e ≤ 2 → all_digits digits ≡ true → Leads text (counted_record count digits) (n + e)
   sound-line e end short all =
       (records (drop (n + e) text), ap (map record_of) (first-lines e end short all) ∙ ap (λ r. r ∷ records (drop (n + e) text)) (says all), λ ne. refl)
 
@@ -200,18 +200,18 @@ module _ (text : List ℕ) (count n : ℕ) (b : begins text ≡ true) (counts : 
       let first : s.first ≡ line = sym (take_at s.first s.left n size) ∙ ap (take n) (sym s.is) ∙ line-is in
       false≢true (sym none ∙ sym all-digits ∙ ap (λ x. all_digits (drop 1 x)) (sym first) ∙ f.digits)
 
-  unsound-line : (s : Split text) (e : ℕ) → all_digits digits ≡ false → Leads text (counted count digits) (n + e)
+  unsound-line : (s : Split text) (e : ℕ) → all_digits digits ≡ false → Leads text (counted_record count digits) (n + e)
   unsound-line s e none =
       let r = refused-line text s (other-line s none) in
-      let unsound : counted count digits ≡ Unsound = rw none refl in
+      let unsound : counted_record count digits ≡ Unsound = rw none refl in
       (r.0, r.1 ∙ ap (λ x. x ∷ r.0) (sym unsound), λ ne. absurd (ne unsound))
 
 pub found : (text : List ℕ) (count n e : ℕ) → begins text ≡ true → count ≡ count_at text → n ≡ 11 + 2 * count → n ≤ length text
-    → end_at (drop n text) ≡ e → e ≤ 2 → Leads text (counted count (take (n - 3) (drop 3 text))) (n + e)
+    → end_at (drop n text) ≡ e → e ≤ 2 → Leads text (counted_record count (take (n - 3) (drop 3 text))) (n + e)
 found [] count n e b counts long room end short = absurd (omega (arith, long, room))
 found (byte ∷ text) count n e b counts long room end short = go (all_digits (take (n - 3) (drop 3 (byte ∷ text)))) refl
   where
-    go : (t : Bool) → all_digits (take (n - 3) (drop 3 (byte ∷ text))) ≡ t → Leads (byte ∷ text) (counted count (take (n - 3) (drop 3 (byte ∷ text)))) (n + e)
+    go : (t : Bool) → all_digits (take (n - 3) (drop 3 (byte ∷ text))) ≡ t → Leads (byte ∷ text) (counted_record count (take (n - 3) (drop 3 (byte ∷ text)))) (n + e)
     go true all = sound-line (byte ∷ text) count n b counts long room e end short all
     go false none = unsound-line (byte ∷ text) count n b counts long room (split byte text) e none
 

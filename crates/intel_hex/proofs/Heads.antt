@@ -9,15 +9,16 @@ use borrow.Rule.Slice.PartMut.{put_mid}
 use lib.Dec.{eqb}
 use lib.ListN.{length, length-take, take, drop, get_or}
 use Rattle.std.specs.Prelude.{sum}
-use Rattle.std.proofs.lemmas.List.{nil_from_length, take-append-drop, take_min, take_at, take_rest, get_or-take, drop-drop, length-append, length-drop}
+use Rattle.std.proofs.lemmas.List.{take-append-drop, take_min, take_at, take_rest, get_or-take}
 use Rattle.std.proofs.lemmas.List.Sums.{sum_by-append}
 use Rattle.bits.specs.Choice.{pick}
 use Rattle.text.specs.Digit.{value_of}
 use Rattle.intel_hex.specs.declared.records.Head.{Head}
-use Rattle.intel_hex.specs.Record.{Record, Unsound, Bytes, End, Upper, is_digit, all_digits, bytes_of, typed, sums_to_zero, meaning}
+use Rattle.intel_hex.specs.Record.{Record, Unsound, Bytes, End, Upper, is_digit, all_digits, bytes_of, typed, sums_to_zero}
 use Rattle.intel_hex.specs.Numbers.{unsound, outside}
 use Rattle.intel_hex.specs.Reader.{answered, refused, place, over, read_on}
-use Rattle.intel_hex.specs.Walk.{counted, headed}
+use Rattle.intel_hex.specs.Walk.{meaning, counted_record, headed_record}
+use Rattle.intel_hex.proofs.Over.{over-none, over-part}
 use Rattle.intel_hex.proofs.Pairs.{sum-cons, joined}
 
 -- the bytes of a head and of what follows
@@ -36,7 +37,7 @@ head-sum h digits =
 abbrev pub tested : Head → List ℕ → Bool
 tested h digits = all_digits digits && eqb ((h.count + h.high + h.low + h.kind + sum (bytes_of digits)) % 256) 0
 
-pub unsound-head : (h : Head) (digits : List ℕ) → tested h digits ≡ false → headed h digits ≡ Unsound
+pub unsound-head : (h : Head) (digits : List ℕ) → tested h digits ≡ false → headed_record h digits ≡ Unsound
 unfolding meaning
 unsound-head h digits e = go (all_digits digits) (rw (← head-sum h digits) at e)
   where
@@ -44,33 +45,13 @@ unsound-head h digits e = go (all_digits digits) (rw (← head-sum h digits) at 
     go true e = rw e
     go false e = refl
 
-pub sound-head : (h : Head) (digits : List ℕ) → tested h digits ≡ true → headed h digits ≡ typed h.kind (all_bytes h digits)
+pub sound-head : (h : Head) (digits : List ℕ) → tested h digits ≡ true → headed_record h digits ≡ typed h.kind (all_bytes h digits)
 unfolding meaning
 sound-head h digits e = go (all_digits digits) (rw (← head-sum h digits) at e)
   where
     go : (b : Bool) → (b && sums_to_zero (all_bytes h digits)) ≡ true → pick b (meaning (all_bytes h digits)) Unsound ≡ typed h.kind (all_bytes h digits)
     go true e = rw e
     go false e = absurd cc
-
--- ---- bytes put over others
-
-pub over-none : (at : ℕ) (bytes mem : List ℕ) → length bytes ≡ 0 → over at bytes mem ≡ mem
-unfolding over
-over-none at bytes mem none =
-    let same : at + 0 ≡ at = omega arith in
-    rw (nil_from_length bytes none, same) (take-append-drop at mem)
-
-pub over-length : (at : ℕ) (bytes mem : List ℕ) → at + length bytes ≤ length mem → length (over at bytes mem) ≡ length mem
-unfolding over
-over-length at bytes mem inside = simp (length-append, length-take, length-drop) (omega (arith, inside))
-
--- a part of memory as it is written back
-pub over-part : (at n : ℕ) (bytes mem : List ℕ) → length bytes ≡ n → put_mid at n mem bytes ≡ over at bytes mem
-unfolding over
-over-part at n bytes mem long = rw (long, ← drop-drop n at mem)
-
-pub part-length : (at n : ℕ) (bytes mem : List ℕ) → length bytes ≡ n → at + n ≤ length mem → length (put_mid at n mem bytes) ≡ length mem
-part-length at n bytes mem long inside = ap length (over-part at n bytes mem long) ∙ over-length at bytes mem (rw (← long) at inside)
 
 -- ---- what the reader does
 
@@ -115,7 +96,7 @@ bytes-length (high ∷ low ∷ digits) =
     omega (arith, h)
 
 pub data-head : (h : Head) (digits : List ℕ) → h.kind ≡ 0 → tested h digits ≡ true
-    → headed h digits ≡ Bytes (h.high * 256 + h.low) (take h.count (bytes_of digits))
+    → headed_record h digits ≡ Bytes (h.high * 256 + h.low) (take h.count (bytes_of digits))
 data-head h digits kind e = sound-head h digits e ∙ rw kind refl
 
 pub data-length : (h : Head) (digits : List ℕ) → length digits ≡ 2 * (h.count + 1) → length (take h.count (bytes_of digits)) ≡ h.count
@@ -131,7 +112,7 @@ take-long m n bytes into e long =
 
 pub put-inside : (k upper at n m : ℕ) (h : Head) (digits mem into : List ℕ) (later : List Record) → h.kind ≡ 0 → length digits ≡ 2 * (h.count + 1)
     → tested h digits ≡ true → at ≡ place upper (h.high * 256 + h.low) → n ≡ h.count → at + h.count ≤ length mem → into ≡ take m (bytes_of digits)
-    → length into ≡ h.count → read_on k upper mem (headed h digits ∷ later) ≡ read_on (suc k) upper (put_mid at n mem into) later
+    → length into ≡ h.count → read_on k upper mem (headed_record h digits ∷ later) ≡ read_on (suc k) upper (put_mid at n mem into) later
 put-inside k upper at n m h digits mem into later kind long e there part inside held size =
     let bytes = take h.count (bytes_of digits) in
     let is : into ≡ bytes = take-long m h.count (bytes_of digits) into held size in
@@ -139,33 +120,33 @@ put-inside k upper at n m h digits mem into later kind long e there part inside 
     let room : place upper (h.high * 256 + h.low) + length bytes ≤ length mem = omega (arith, count, inside, there) in
     let put : put_mid at n mem into ≡ over (place upper (h.high * 256 + h.low)) bytes mem =
     over-part at n into mem (size ∙ sym part) ∙ ap (λ a. over a into mem) there ∙ ap (λ x. over (place upper (h.high * 256 + h.low)) x mem) is in
-    read-inside k upper (h.high * 256 + h.low) bytes mem later (headed h digits) (data-head h digits kind e) room ∙ ap (λ x. read_on (suc k) upper x later) (sym put)
+    read-inside k upper (h.high * 256 + h.low) bytes mem later (headed_record h digits) (data-head h digits kind e) room ∙ ap (λ x. read_on (suc k) upper x later) (sym put)
 
 -- ---- records of the other types
 
-pub unsound-type : (h : Head) (digits : List ℕ) → typed h.kind (all_bytes h digits) ≡ Unsound → headed h digits ≡ Unsound
+pub unsound-type : (h : Head) (digits : List ℕ) → typed h.kind (all_bytes h digits) ≡ Unsound → headed_record h digits ≡ Unsound
 unsound-type h digits e = go (tested h digits) refl
   where
-    go : (b : Bool) → tested h digits ≡ b → headed h digits ≡ Unsound
+    go : (b : Bool) → tested h digits ≡ b → headed_record h digits ≡ Unsound
     go true t = sound-head h digits t ∙ e
     go false t = unsound-head h digits t
 
-pub unsound-end : (h : Head) (digits : List ℕ) → h.kind ≡ 1 → (eqb h.count 0 && eqb (h.high * 256 + h.low) 0) ≡ false → headed h digits ≡ Unsound
+pub unsound-end : (h : Head) (digits : List ℕ) → h.kind ≡ 1 → (eqb h.count 0 && eqb (h.high * 256 + h.low) 0) ≡ false → headed_record h digits ≡ Unsound
 unsound-end h digits kind e = unsound-type h digits (rw (kind, e) refl)
 
-pub unsound-upper : (h : Head) (digits : List ℕ) → h.kind ≡ 4 → (eqb h.count 2 && eqb (h.high * 256 + h.low) 0) ≡ false → headed h digits ≡ Unsound
+pub unsound-upper : (h : Head) (digits : List ℕ) → h.kind ≡ 4 → (eqb h.count 2 && eqb (h.high * 256 + h.low) 0) ≡ false → headed_record h digits ≡ Unsound
 unsound-upper h digits kind e = unsound-type h digits (rw (kind, e) refl)
 
-pub unsound-other : (h : Head) (digits : List ℕ) → (h.kind ≡ 0 → ⊥) → (h.kind ≡ 1 → ⊥) → (h.kind ≡ 4 → ⊥) → headed h digits ≡ Unsound
+pub unsound-other : (h : Head) (digits : List ℕ) → (h.kind ≡ 0 → ⊥) → (h.kind ≡ 1 → ⊥) → (h.kind ≡ 4 → ⊥) → headed_record h digits ≡ Unsound
 unsound-other h digits no_data no_end no_upper =
     unsound-type h digits (rw (ne_eqb h.kind 0 no_data, ne_eqb h.kind 1 no_end, ne_eqb h.kind 4 no_upper) refl)
 
 pub end-head : (h : Head) (digits : List ℕ) → h.kind ≡ 1 → (eqb h.count 0 && eqb (h.high * 256 + h.low) 0) ≡ true → tested h digits ≡ true
-    → headed h digits ≡ End
+    → headed_record h digits ≡ End
 end-head h digits kind e t = sound-head h digits t ∙ rw (kind, e) refl
 
 pub upper-head : (h : Head) (digits half : List ℕ) → h.kind ≡ 4 → (eqb h.count 2 && eqb (h.high * 256 + h.low) 0) ≡ true → tested h digits ≡ true
-    → half ≡ take 2 (bytes_of digits) → headed h digits ≡ Upper (get_or half 0 0 * 256 + get_or half 1 0)
+    → half ≡ take 2 (bytes_of digits) → headed_record h digits ≡ Upper (get_or half 0 0 * 256 + get_or half 1 0)
 upper-head h digits half kind e t held = sound-head h digits t ∙ rw (kind, e, held, get_or-take 2 (bytes_of digits) 0 0 (omega arith), get_or-take 2 (bytes_of digits) 1 0 (omega arith)) refl
 
 pub read-end : (k upper : ℕ) (mem : List ℕ) (later : List Record) (r : Record) → r ≡ End → read_on k upper mem (r ∷ later) ≡ answered 0 0 mem
@@ -217,21 +198,19 @@ three (x ∷ y ∷ z ∷ w ∷ xs) e = absurd (omega (arith, e))
 
 -- six digits after the count are the rest of a head
 pub counted-head : (h : Head) (digits into : List ℕ) → 6 ≤ length digits → all_digits (take 6 digits) ≡ true → into ≡ bytes_of (take 6 digits)
-    → h.high ≡ get_or into 0 0 → h.low ≡ get_or into 1 0 → h.kind ≡ get_or into 2 0 → counted h.count digits ≡ headed h (take (length digits - 6) (drop 6 digits))
+    → h.high ≡ get_or into 0 0 → h.low ≡ get_or into 1 0 → h.kind ≡ get_or into 2 0
+    → counted_record h.count digits ≡ headed_record h (take (length digits - 6) (drop 6 digits))
 counted-head h digits into long e held high low kind =
-    let six : length (take 6 digits) ≡ 6 = length-take 6 digits ∙ omega (arith, long) in
-    let n : length (bytes_of (take 6 digits)) ≡ 3 = bytes-length (take 6 digits) ∙ ap (λ n. n / 2) six in
+    let n : length (bytes_of (take 6 digits)) ≡ 3 =
+    bytes-length (take 6 digits) ∙ ap (λ n. n / 2) (length-take 6 digits) ∙ omega (arith, long) in
     let head : bytes_of (take 6 digits) ≡ h.high ∷ h.low ∷ h.kind ∷ [] = rw (← held, high, low, kind) (three into (ap length held ∙ n)) in
-    let all : all_digits digits ≡ all_digits (drop 6 digits) =
-    ap all_digits (sym (take-append-drop 6 digits)) ∙ digits-append (take 6 digits) (drop 6 digits) ∙ rw e refl in
-    let bytes : bytes_of digits ≡ h.high ∷ h.low ∷ h.kind ∷ bytes_of (drop 6 digits) =
-    ap bytes_of (sym (take-append-drop 6 digits)) ∙ bytes-append (take 6 digits) (drop 6 digits) (ap (λ n. n % 2) six) ∙ rw head refl in
+    let all : all_digits digits ≡ all_digits (drop 6 digits) = parts-digits 6 digits ∙ rw e refl in
+    let bytes : bytes_of digits ≡ h.high ∷ h.low ∷ h.kind ∷ bytes_of (drop 6 digits) = parts-bytes 3 digits long ∙ rw head refl in
     rw (all, bytes, take_rest digits 6)
 
-pub uncounted : (count : ℕ) (digits : List ℕ) → all_digits (take 6 digits) ≡ false → counted count digits ≡ Unsound
+pub uncounted : (count : ℕ) (digits : List ℕ) → all_digits (take 6 digits) ≡ false → counted_record count digits ≡ Unsound
 uncounted count digits e =
-    let none : all_digits digits ≡ false =
-    ap all_digits (sym (take-append-drop 6 digits)) ∙ digits-append (take 6 digits) (drop 6 digits) ∙ rw e refl in
+    let none : all_digits digits ≡ false = parts-digits 6 digits ∙ rw e refl in
     rw none
 
 -- ---- the test, by the two parts of the digits

@@ -1,4 +1,5 @@
 pub mod Pairs
+pub mod Over
 pub mod Heads
 pub mod FirstLine
 pub mod Cuts
@@ -9,4 +10,5 @@ pub mod RoundTrip
 pub mod Marked
 pub mod Beyond
 pub mod Refusals
-pub mod Told
+pub mod Named
+pub mod Pieces

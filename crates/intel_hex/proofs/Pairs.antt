@@ -1,4 +1,4 @@
--- Digit pairs one by one: what is left at pair k begins with its two digits. Assumes nothing.
+-- The walk over digit pairs: what each turn and the end make of the digits, the sum and the bytes. Assumes nothing.
 use mathlib.Core.Path.{◌≡◌, refl, sym, ap, ◌∙◌}
 use mathlib.Core.Bool.{Bool, true, false, ◌&&◌}
 use mathlib.Core.List.{List, [], ◌∷◌, ◌++◌}

@@ -13,9 +13,9 @@ use Rattle.text.specs.Digit.{digit}
 use Rattle.text.specs.Text.{hex_digits}
 use Rattle.text.proofs.Inverse.{digits}
 use Rattle.intel_hex.specs.Lines.{line_feed}
-use Rattle.intel_hex.specs.Record.{Bytes, End, colon, is_digit, all_digits, bytes_of, typed, sums_to_zero, meaning, well_formed, record_of}
+use Rattle.intel_hex.specs.Record.{Bytes, End, colon, is_digit, all_digits, bytes_of, typed, sums_to_zero, well_formed, record_of}
 use Rattle.intel_hex.specs.Reader.{records}
-use Rattle.intel_hex.specs.Writer.{pairs, sum_byte, unsummed, summed, record_line}
+use Rattle.intel_hex.specs.Writer.{pairs, checksum, unsummed, summed, record_line}
 use Rattle.intel_hex.proofs.FirstLine.{by_line_feed, plain-lines}
 use Rattle.intel_hex.proofs.Written.{pairs-length}
 
@@ -58,11 +58,11 @@ small-push (b ∷ bytes) byte s h = (s.0, small-push bytes byte s.1 h)
 
 summed-small : (type address : ℕ) (bytes : List ℕ) → type < 256 → length bytes < 256 → Small bytes → Small (summed (unsummed type address bytes))
 summed-small type address bytes t n s =
-    small-push (unsummed type address bytes) (sum_byte (unsummed type address bytes)) (n, (omega arith, (omega arith, (t, s)))) (omega arith)
+    small-push (unsummed type address bytes) (checksum (unsummed type address bytes)) (n, (omega arith, (omega arith, (t, s)))) (omega arith)
 
 summed-sums : (bytes : List ℕ) → sums_to_zero (summed bytes) ≡ true
 summed-sums bytes =
-    let all : sum (summed bytes) ≡ sum bytes + sum_byte bytes = sum_by_push (λ x. x) bytes (sum_byte bytes) in
+    let all : sum (summed bytes) ≡ sum bytes + checksum bytes = sum_by_push (λ x. x) bytes (checksum bytes) in
     eq-eqb _ _ (omega (arith, all))
 
 written-formed : (type address : ℕ) (bytes : List ℕ) → bytes_of (pairs (summed (unsummed type address bytes))) ≡ summed (unsummed type address bytes)
@@ -70,14 +70,14 @@ written-formed : (type address : ℕ) (bytes : List ℕ) → bytes_of (pairs (su
 unfolding well_formed
 written-formed type address bytes back =
     let whole = summed (unsummed type address bytes) in
-    let n = length-append (unsummed type address bytes) (sum_byte (unsummed type address bytes) ∷ []) in
+    let n = length-append (unsummed type address bytes) (checksum (unsummed type address bytes) ∷ []) in
     let m = pairs-length whole in
     let size : length (written_line type address bytes) ≡ 1 + 2 * (length bytes + 5) = omega (arith, m, n) in
     rw (pairs-digits whole, back) (eq-eqb _ _ size)
 
 pub written-record : (type address : ℕ) (bytes : List ℕ) → type < 256 → length bytes < 256 → Small bytes
     → record_of (written_line type address bytes) ≡ typed type (summed (unsummed type address bytes))
-unfolding record_of meaning
+unfolding record_of
 written-record type address bytes t n s =
     let whole = summed (unsummed type address bytes) in
     let back : bytes_of (pairs whole) ≡ whole = pairs-bytes whole (summed-small type address bytes t n s) in
@@ -97,7 +97,7 @@ pub data-back : (address : ℕ) (bytes text : List ℕ) → address < 65536 → 
     → records (record_line 0 address bytes ++ text) ≡ Bytes address bytes ∷ records text
 data-back address bytes text a n s =
     let there : address / 256 % 256 * 256 + address % 256 ≡ address = omega (arith, a) in
-    let held : take (length bytes) (bytes ++ sum_byte (unsummed 0 address bytes) ∷ []) ≡ bytes = take_at bytes (sum_byte (unsummed 0 address bytes) ∷ []) (length bytes) refl in
+    let held : take (length bytes) (bytes ++ checksum (unsummed 0 address bytes) ∷ []) ≡ bytes = take_at bytes (checksum (unsummed 0 address bytes) ∷ []) (length bytes) refl in
     written-lines 0 address bytes text (omega arith) n s ∙ ap (λ r. r ∷ records text) (rw (there, held) refl)
 
 pub end-back : (text : List ℕ) → records (record_line 1 0 [] ++ text) ≡ End ∷ records text

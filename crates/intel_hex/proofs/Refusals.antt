@@ -4,19 +4,19 @@ use mathlib.Core.Bool.{Bool, true, false, false≢true}
 use mathlib.Core.List.{List, [], ◌∷◌}
 use Prim.Native.Nat.{ℕ, suc, ◌+◌, ◌*◌, ◌<◌}
 use native.Mathlib.Omega.{arith}
-use borrow.Author.Tests.{leb-true, leb-false}
+use borrow.Author.Tests.{leb-true, leb-false, le-ltb, ne_eqb}
 use lib.Dec.{leb}
-use lib.ListN.{length, length-replicate, replicate, get_or}
-use Rattle.std.proofs.lemmas.List.{get_or-replicate}
+use lib.ListN.{length, length-replicate, replicate}
 use Rattle.bits.specs.Choice.{pick}
 use Rattle.memory.specs.Lengths.{bad_length, GoodLength}
 use Rattle.memory.proofs.Lengths.{good_length, length-good}
 use Rattle.intel_hex.specs.Record.{Record, Unsound, Bytes, End, Upper}
 use Rattle.intel_hex.specs.Numbers as numbers
-use Rattle.intel_hex.specs.Reader.{Read, answered, refused, zeros, place, beyond, over, records, read_on, read}
-use Rattle.intel_hex.specs.Named.{named, byte_after, Named}
-use Rattle.intel_hex.specs.Refusals.{Gives, ends, unsound, outside, no_end, inside, upper_half, Refuses}
-use Rattle.intel_hex.proofs.Beyond.{beyond-is, over-keeps, over-at}
+use Rattle.intel_hex.specs.Reader.{Read, refused, zeros, place, beyond, over, records, read_on, read}
+use Rattle.intel_hex.specs.Writer.{rows, line, write}
+use Rattle.intel_hex.specs.Refusals.{Gives, ends, unsound, outside, no_end, inside, upper_half, Refuses, Writes}
+use Rattle.intel_hex.proofs.Reading.{refused-length, read-lines}
+use Rattle.intel_hex.proofs.Beyond.{beyond-is, over-keeps}
 
 gives : (n upper k : ℕ) (mem : List ℕ) (rs : List Record) → length mem ≡ n → Gives n upper k rs (read_on k upper mem rs).answer (read_on k upper mem rs).line
 unfolding read_on
@@ -69,28 +69,18 @@ left n upper k mem (Bytes address bytes ∷ rs) e =
     go true t more = left-refused n numbers.outside (suc k) mem e
     go false t more = more (over-keeps (place upper address) bytes mem t ∙ e)
 
--- ---- a read, by its length
-
-good-read : (text mem : List ℕ) → bad_length (length mem) ≡ false → read text mem ≡ read_on 0 0 (zeros mem) (records text)
-unfolding read
-good-read text mem e = rw e refl
-
-bad-read : (text mem : List ℕ) → bad_length (length mem) ≡ true → read text mem ≡ answered 1 0 mem
-unfolding read
-bad-read text mem e = rw e refl
-
 zero-length : (mem : List ℕ) → length (zeros mem) ≡ length mem
 zero-length mem = length-replicate {A = ℕ} (length mem) 0
 
 good-left : (text mem : List ℕ) → GoodLength (length mem) → Left (length mem) (read text mem)
-good-left text mem g = subst (Left (length mem)) (sym (good-read text mem (length-good (length mem) g))) (left (length mem) 0 0 (zeros mem) (records text) (zero-length mem))
+good-left text mem g = subst (Left (length mem)) (sym (read-lines text mem _ (length-good (length mem) g) refl)) (left (length mem) 0 0 (zeros mem) (records text) (zero-length mem))
 
 pub refuses : (text mem : List ℕ) → Refuses text mem
 refuses text mem =
     record {
-      length_bad = λ bad. bad-read text mem (by-length bad (bad_length (length mem)) refl);
+      length_bad = λ bad. refused-length text mem (by-length bad (bad_length (length mem)) refl);
       gives = λ g.
-          subst (λ r. Gives (length mem) 0 0 (records text) r.answer r.line) (sym (good-read text mem (length-good (length mem) g)))
+          subst (λ r. Gives (length mem) 0 0 (records text) r.answer r.line) (sym (read-lines text mem _ (length-good (length mem) g) refl))
           (gives (length mem) 0 0 (zeros mem) (records text) (zero-length mem));
       cleared = λ g. (good-left text mem g).cleared;
       as_long = as-long (bad_length (length mem)) refl;
@@ -101,39 +91,22 @@ refuses text mem =
     by-length bad false e = absurd (bad (good_length (length mem) e))
 
     as-long : (b : Bool) → bad_length (length mem) ≡ b → length (read text mem).memory ≡ length mem
-    as-long true e = ap (λ r. length r.memory) (bad-read text mem e)
+    as-long true e = ap (λ r. length r.memory) (refused-length text mem e)
     as-long false e = (good-left text mem (good_length (length mem) e)).as_long
 
--- ---- what stands at an address
+-- ---- the writer
 
-after : (k upper a had : ℕ) (mem : List ℕ) (rs : List Record) → get_or mem a 0 ≡ had → (read_on k upper mem rs).answer ≡ 0
-    → get_or (read_on k upper mem rs).memory a 0 ≡ byte_after upper a had rs
-unfolding read_on byte_after
-after k upper a had mem [] e z = let n : numbers.no_end ≡ 0 = z in omega (arith, n)
-after k upper a had mem (Unsound ∷ rs) e z = let n : numbers.unsound ≡ 0 = z in omega (arith, n)
-after k upper a had mem (End ∷ rs) e z = e
-after k upper a had mem (Upper half ∷ rs) e z = after (suc k) half a had mem rs e z
-after k upper a had mem (Bytes address bytes ∷ rs) e z =
-    go (beyond (place upper address) bytes mem) refl z
-    (λ same zero. after (suc k) upper a (named a (place upper address) bytes had) (over (place upper address) bytes mem) rs same zero)
+pub writes : (mem : List ℕ) (number : ℕ) → Writes mem number
+unfolding write line
+writes mem number =
+    record {
+      length_bad = λ bad. rw (by-length bad (bad_length (length mem)) refl) refl;
+      accepted = λ g. rw (length-good (length mem) g) refl;
+      past = λ g far.
+          rw (length-good (length mem) g, le-ltb number (rows (length mem)) (omega (arith, far)), ne_eqb number (rows (length mem)) (λ e. omega (arith, far, e)))
+          refl;
+    }
   where
-    go : (t : Bool) → beyond (place upper address) bytes mem ≡ t
-        → (pick t (refused numbers.outside (suc k) mem) (read_on (suc k) upper (over (place upper address) bytes mem) rs)).answer ≡ 0
-        → (get_or (over (place upper address) bytes mem) a 0 ≡ named a (place upper address) bytes had
-        → (read_on (suc k) upper (over (place upper address) bytes mem) rs).answer ≡ 0
-        → get_or (read_on (suc k) upper (over (place upper address) bytes mem) rs).memory a 0
-        ≡ byte_after upper a (named a (place upper address) bytes had) rs)
-        → get_or (pick t (refused numbers.outside (suc k) mem) (read_on (suc k) upper (over (place upper address) bytes mem) rs)).memory a 0
-        ≡ byte_after upper a (named a (65536 * upper + address) bytes had) rs
-    go true t nought more = let n : numbers.outside ≡ 0 = nought in omega (arith, n)
-    go false t nought more = more (over-at (place upper address) a bytes mem t ∙ ap (named a (place upper address) bytes) e) nought
-
-pub named-bytes : Named
-named-bytes text mem a z h = go (bad_length (length mem)) refl
-  where
-    go : (b : Bool) → bad_length (length mem) ≡ b → get_or (read text mem).memory a 0 ≡ byte_after 0 a 0 (records text)
-    go true e = let n : 1 ≡ 0 = sym (ap (λ r. r.answer) (bad-read text mem e)) ∙ z in omega (arith, n)
-    go false e =
-        let r = good-read text mem e in
-        ap (λ x. get_or x.memory a 0) r
-        ∙ after 0 0 a 0 (zeros mem) (records text) (get_or-replicate (length mem) a 0 0 h) (sym (ap (λ x. x.answer) r) ∙ z)
+    by-length : (GoodLength (length mem) → ⊥) → (b : Bool) → bad_length (length mem) ≡ b → bad_length (length mem) ≡ true
+    by-length bad true e = e
+    by-length bad false e = absurd (bad (good_length (length mem) e))

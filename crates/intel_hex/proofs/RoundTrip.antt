@@ -11,10 +11,11 @@ use Rattle.std.proofs.lemmas.List.{append_assoc, append-nil, get_or-take, get_or
 use Rattle.memory.specs.Lengths.{GoodLength}
 use Rattle.memory.specs.Lanes as lanes
 use Rattle.memory.proofs.Lengths.{length-good}
-use Rattle.intel_hex.specs.Record.{Bytes, End}
+use Rattle.intel_hex.specs.Lines.{lines}
+use Rattle.intel_hex.specs.Record.{Bytes, End, data_type}
 use Rattle.intel_hex.specs.Reader.{answered, zeros, place, over, records, read_on, read}
 use Rattle.intel_hex.specs.Writer.{row, rows, record_line, line, write}
-use Rattle.intel_hex.specs.RoundTrip.{file, RoundTrip}
+use Rattle.intel_hex.specs.RoundTrip.{file, RoundTrip, RecordsBack}
 use Rattle.intel_hex.proofs.Heads.{read-inside, read-end}
 use Rattle.intel_hex.proofs.ReadBack.{Small, data-back, end-back}
 
@@ -170,3 +171,8 @@ pub round-trip : RoundTrip
 unfolding read
 round-trip mem lent n b good same enough =
     rw (same, length-good (length mem) good, from-start mem n) (reads mem b good n 0 0 (omega arith) (omega (arith, enough)))
+
+pub records-back : RecordsBack
+unfolding lines
+records-back address bytes b a n =
+    ap records (sym (append-nil (record_line data_type address bytes))) ∙ data-back address bytes [] a n (small bytes b)

@@ -13,7 +13,7 @@ use Rattle.text.proofs.Digits.{hex-length}
 use Rattle.text.proofs.Put.{put-append, put-fits}
 use Rattle.intel_hex.specs.Lines.{line_feed}
 use Rattle.intel_hex.specs.Record.{colon}
-use Rattle.intel_hex.specs.Writer.{pairs, sum_byte, unsummed, summed, record_line}
+use Rattle.intel_hex.specs.Writer.{pairs, checksum, unsummed, summed, record_line}
 
 pub pairs-append : (bytes more : List ℕ) → pairs (bytes ++ more) ≡ pairs bytes ++ pairs more
 unfolding pairs
@@ -53,7 +53,7 @@ put-five a b c d e room =
 
 -- a record's pieces, put one after the other
 pub record-put : (kind address byte : ℕ) (bytes head : List ℕ) → length bytes ≤ 16
-    → head ≡ length bytes ∷ address / 256 % 256 ∷ address % 256 ∷ kind ∷ [] → byte ≡ sum_byte (head ++ bytes)
+    → head ≡ length bytes ∷ address / 256 % 256 ∷ address % 256 ∷ kind ∷ [] → byte ≡ checksum (head ++ bytes)
     → put (put (put (put (put [] (colon ∷ [])) (pairs head)) (pairs bytes)) (pairs (byte ∷ []))) (line_feed ∷ []) ≡ record_line kind address bytes
 unfolding record_line
 record-put kind address byte bytes head short is sums =
@@ -70,11 +70,11 @@ record-put kind address byte bytes head short is sums =
 -- the texts between
 pub record-built : {t0 t1 t2 t3 t4 t5 head : List ℕ} {byte : ℕ} (kind address : ℕ) (bytes : List ℕ) → t0 ≡ [] → t1 ≡ put t0 (colon ∷ []) → t2 ≡ put t1 (pairs head)
     → t3 ≡ put t2 (pairs bytes) → t4 ≡ put t3 (pairs (byte ∷ [])) → t5 ≡ put t4 (line_feed ∷ []) → length bytes ≤ 16
-    → head ≡ length bytes ∷ address / 256 % 256 ∷ address % 256 ∷ kind ∷ [] → byte ≡ sum_byte (head ++ bytes) → t5 ≡ record_line kind address bytes
+    → head ≡ length bytes ∷ address / 256 % 256 ∷ address % 256 ∷ kind ∷ [] → byte ≡ checksum (head ++ bytes) → t5 ≡ record_line kind address bytes
 record-built {head = head} {byte = byte} kind address bytes e0 e1 e2 e3 e4 e5 short is sums =
     rw (e5, e4, e3, e2, e1, e0) (record-put kind address byte bytes head short is sums)
 
-pub sum-built : (head bytes : List ℕ) (s t : ℕ) → s ≡ sum head % 256 → t ≡ sum bytes % 256 → (0 + (256 - (s + t) % 256)) % 256 ≡ sum_byte (head ++ bytes)
+pub sum-built : (head bytes : List ℕ) (s t : ℕ) → s ≡ sum head % 256 → t ≡ sum bytes % 256 → (0 + (256 - (s + t) % 256)) % 256 ≡ checksum (head ++ bytes)
 sum-built head bytes s t e f =
     let all : sum (head ++ bytes) ≡ sum head + sum bytes = sum_by-append (λ x. x) head bytes in
     omega (arith, e, f, all)
@@ -85,6 +85,6 @@ pub record-length : (kind address : ℕ) (bytes : List ℕ) → length (record_l
 unfolding record_line
 record-length kind address bytes =
     let n1 = pairs-length (summed (unsummed kind address bytes)) in
-    let n2 = length-append (unsummed kind address bytes) (sum_byte (unsummed kind address bytes) ∷ []) in
+    let n2 = length-append (unsummed kind address bytes) (checksum (unsummed kind address bytes) ∷ []) in
     let n3 = length-append (pairs (summed (unsummed kind address bytes))) (line_feed ∷ []) in
     omega (arith, n1, n2, n3)

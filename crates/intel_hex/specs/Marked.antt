@@ -31,9 +31,12 @@ cases =
     ∷ case ":00000001FF\r\n" 0 0
     ∷ case ":00000001FF" 0 0
     ∷ case ":00000001ff" 0 0
+    -- lines before it that end in CR LF
+    ∷ case (then ":02000300AABB96\r\n" end) 0 0
     -- a carriage return that is no end's
     ∷ case ":00000001FF\r" 41 1
     ∷ case ":00000001FF\r\r\n" 41 1
+    ∷ case ":000000\r01FF\n" 41 1
     -- text after the end record, on later lines and on its own
     ∷ case (then end "anything") 0 0
     ∷ case ":00000001FF:\n" 41 1
@@ -43,26 +46,36 @@ cases =
     ∷ case ":02000300AABB96\n" 43 1
     -- empty lines
     ∷ case "\n" 41 1
+    ∷ case (then "\r\n" end) 41 1
     ∷ case (then ":02000300AABB96\n\n" end) 41 2
-    -- no colon, no digit, a pair less, a pair more, the wrong sum
+    -- a blank before the colon, and behind the sum
+    ∷ case " :00000001FF\n" 41 1
+    ∷ case ":00000001FF \n" 41 1
+    -- no colon, no digit, half a pair more, a pair less and a pair more (both with a sum that fits), the wrong sum
     ∷ case "00000001FF" 41 1
     ∷ case ":0000000GFF" 41 1
-    ∷ case ":000000FF" 41 1
+    ∷ case ":00000001FF0\n" 41 1
+    ∷ case ":03000300AABB95" 41 1
     ∷ case ":0000000100FF" 41 1
     ∷ case ":00000001FE" 41 1
     -- other types; types 01 and 04 with other counts and addresses
     ∷ case (then ":020000021000EC\n" end) 41 1
     ∷ case (then ":0400000300000000F9\n" end) 41 1
     ∷ case (then ":0400000500000000F7\n" end) 41 1
+    ∷ case (then ":00000006FA\n" end) 41 1
+    ∷ case (then ":00000010F0\n" end) 41 1
     ∷ case ":0100000100FE" 41 1
     ∷ case ":00000101FE" 41 1
+    ∷ case ":00010001FE" 41 1
     ∷ case (then ":0100000401FA\n" end) 41 1
+    ∷ case (then ":03000004000000F9\n" end) 41 1
     ∷ case (then ":020001040000F9\n" end) 41 1
-    -- data at the end of memory, past it, and none of it past it
+    ∷ case (then ":020100040000F9\n" end) 41 1
+    -- data at the end of memory, data past it, and a record without data, past it
     ∷ case (then ":02001E000102DD\n" end) 0 0
     ∷ case (then ":02001F000102DC\n" end) 42 1
     ∷ case (then ":00002800D8\n" end) 0 0
-    -- past it by the upper half, and back; addresses that a wrap would bring back
+    -- past it by the upper half, and back; an end that a wrap at 2^32 would bring back
     ∷ case (then ":020000040001F9\n:02000300AABB96\n" end) 42 2
     ∷ case (then ":020000040001F9\n:020000040000FA\n:02000300AABB96\n" end) 0 0
     ∷ case (then ":02000004FFFFFC\n:09FFF800000102030405060708DC\n" end) 42 2
@@ -73,10 +86,10 @@ cases =
     ∷ case ":02001F000102DC\n" 42 1
     ∷ []
 
-abbrev pub told : List Case → Bool
-told [] = true
-told (c ∷ cases) =
-    eqb (read (bytes c.text) (replicate 32 7)).answer c.answer && (eqb (read (bytes c.text) (replicate 32 7)).line c.line && told cases)
+abbrev pub hold : List Case → Bool
+hold [] = true
+hold (c ∷ cases) =
+    eqb (read (bytes c.text) (replicate 32 7)).answer c.answer && (eqb (read (bytes c.text) (replicate 32 7)).line c.line && hold cases)
 
 -- the sample countdown.bin
 abbrev pub countdown : List ℕ
@@ -93,7 +106,7 @@ abbrev longer_text : String
 longer_text = then ":100000000500A0E3010050E2FDFFFF1A000000EF31\n:0400100010111213A6\n" end
 
 pub record Marked : Type 0 where
-  pub read_as : told cases ≡ true
+  pub read_as : hold cases ≡ true
   -- A byte that no record names is 0, and one named twice takes the later; digits of either case.
   pub held : read (bytes (then ":02000300AABB96\n:01000400cc2f\n" end)) (replicate 16 7)
       ≡ answered 0 0 (0 ∷ 0 ∷ 0 ∷ 170 ∷ 204 ∷ replicate 11 0)

@@ -3,8 +3,9 @@ use Rattle.std.specs.Prelude.{ℕ, suc, ◌+◌, ◌*◌, ◌≤◌, ◌<◌, �
 use Rattle.memory.specs.Lengths.{GoodLength}
 use Rattle.intel_hex.specs.Record.{Record, Unsound, Bytes, End, Upper}
 use Rattle.intel_hex.specs.Reader.{answered, records, read}
+use Rattle.intel_hex.specs.Writer.{written, write}
 
--- k lines are good, and what comes then gives this number and line; in a memory of n bytes
+-- behind k good lines, with this upper half of addresses, the records give this answer and line, in a memory of n bytes; the numbers are given anew
 pub data Gives (n : ℕ) : ℕ → ℕ → List Record → ℕ → ℕ → Type 0 where
   ends : (upper k : ℕ) (rest : List Record) → Gives n upper k (End ∷ rest) 0 0
   unsound : (upper k : ℕ) (rest : List Record) → Gives n upper k (Unsound ∷ rest) 41 (suc k)
@@ -20,3 +21,9 @@ pub record Refuses (text mem : List ℕ) : Type 0 where
   pub gives : GoodLength (length mem) → Gives (length mem) 0 0 (records text) (read text mem).answer (read text mem).line
   pub cleared : GoodLength (length mem) → ((read text mem).answer ≡ 0 → ⊥) → (read text mem).memory ≡ replicate (length mem) 0
   pub as_long : length (read text mem).memory ≡ length mem
+
+-- What the writer answers: 1 for a bad length alone, for every line; and nothing past the end record, however large the number is.
+pub record Writes (mem : List ℕ) (number : ℕ) : Type 0 where
+  pub length_bad : (GoodLength (length mem) → ⊥) → write mem number ≡ written 1 []
+  pub accepted : GoodLength (length mem) → (write mem number).answer ≡ 0
+  pub past : GoodLength (length mem) → length mem + 16 ≤ 16 * number → (write mem number).text ≡ []

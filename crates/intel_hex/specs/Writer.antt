@@ -6,23 +6,23 @@ use Rattle.memory.specs.Lengths.{length_refused, bad_length}
 use Rattle.intel_hex.specs.declared.refused.Refusal.{Refusal}
 use Rattle.intel_hex.specs.Numbers.{number_of}
 use Rattle.intel_hex.specs.Lines.{line_feed}
-use Rattle.intel_hex.specs.Record.{colon}
+use Rattle.intel_hex.specs.Record.{colon, data_type, end_type}
 
 -- bytes as digit pairs, upper case
 unfoldable pub pairs : List ℕ → List ℕ
 pairs [] = []
 pairs (byte ∷ bytes) = hex_digits 2 byte ++ pairs bytes
 
--- the byte that brings the sum of a record's bytes to 0 modulo 256
-abbrev pub sum_byte : List ℕ → ℕ
-sum_byte bytes = (256 - sum bytes % 256) % 256
+-- the checksum: the byte that brings the sum of a record's bytes to 0 modulo 256
+abbrev pub checksum : List ℕ → ℕ
+checksum bytes = (256 - sum bytes % 256) % 256
 
 -- the bytes of a record before its sum
 abbrev pub unsummed : ℕ → ℕ → List ℕ → List ℕ
 unsummed type address bytes = length bytes ∷ address / 256 % 256 ∷ address % 256 ∷ type ∷ bytes
 
 abbrev pub summed : List ℕ → List ℕ
-summed bytes = bytes ++ (sum_byte bytes ∷ [])
+summed bytes = bytes ++ (checksum bytes ∷ [])
 
 unfoldable pub record_line : ℕ → ℕ → List ℕ → List ℕ
 record_line type address bytes = colon ∷ (pairs (summed (unsummed type address bytes)) ++ (line_feed ∷ []))
@@ -31,15 +31,15 @@ record_line type address bytes = colon ∷ (pairs (summed (unsummed type address
 abbrev pub row : ℕ
 row = 16
 
--- how many lines have data: the last one may be shorter
+-- how many lines have data, of a memory of n bytes: the last one may be shorter
 abbrev pub rows : ℕ → ℕ
-rows length = (length + 15) / row
+rows n = (n + (row - 1)) / row
 
 -- the whole memory from address 0, then the end record, then nothing
 unfoldable pub line : List ℕ → ℕ → List ℕ
 line mem number =
-    pick (ltb number (rows (length mem))) (record_line 0 (row * number) (take row (drop (row * number) mem)))
-    (pick (eqb number (rows (length mem))) (record_line 1 0 [])
+    pick (ltb number (rows (length mem))) (record_line data_type (row * number) (take row (drop (row * number) mem)))
+    (pick (eqb number (rows (length mem))) (record_line end_type 0 [])
     [])
 
 -- what the writer answers, and the line

@@ -1,9 +1,11 @@
 // Where the line at a text's beginning ends, if it is a record: its count says it.
-ghost use Rattle.std.specs.Prelude.{◌≡◌, ◌≢◌, ◌+◌, ◌-◌, ◌*◌, ◌≤◌, true, false, [], List, ℕ, length, take, drop, MatchOption};
-ghost use Rattle.intel_hex.specs.Record.{Unsound};
-ghost use Rattle.intel_hex.specs.Walk.{counted, begins, count_at, end_at, Leads};
+ghost use Rattle.std.specs.Prelude.{◌≡◌, ◌≤◌, true, false, length, MatchOption};
+ghost use Rattle.intel_hex.specs.Walk.{begins, count_at, end_at, Cut};
 
 use crate::digits::decode;
+
+// Digit pairs of a record beside its data: the count, two of the address, the type, the sum.
+const BESIDE_DATA: usize = 5;
 
 // A line as far as its count tells of it: how many bytes it has, and how many with its end.
 #[derive(Clone, Copy)]
@@ -39,12 +41,12 @@ fn end_of(left: &[u8]) -> Option<usize>
 }
 
 pub fn cut(text: &[u8]) -> Option<Line>
-    ensures { MatchOption result (text.now ≢ [] → Leads text.now Unsound 0) (λ c. (c.length ≡ 11 + 2 * c.count) × (c.length ≤ c.whole) × (c.whole ≤ length text.now) × Leads text.now (counted c.count (take (c.length - 3) (drop 3 text.now))) c.whole) }
+    ensures { Cut text.now result }
 {
     let Some(count) = count_of(text) else {
         return None;
     };
-    let length = 11 + 2 * count as usize;
+    let length = 1 + 2 * (count as usize + BESIDE_DATA);
     if text.len() < length {
         return None;
     }

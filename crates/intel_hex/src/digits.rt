@@ -1,6 +1,6 @@
 // Digit pairs: the bytes that they stand for, taken in one walk.
-ghost use Rattle.std.specs.Prelude.{◌≡◌, ◌*◌, ◌%◌, true, false, length, sum, MatchOption};
-ghost use Rattle.intel_hex.specs.Record.{all_digits, bytes_of};
+ghost use Rattle.std.specs.Prelude.{◌≡◌, ◌*◌, length};
+ghost use Rattle.intel_hex.specs.Walk.{Decoded};
 
 use text::digit::value_of;
 
@@ -8,7 +8,7 @@ use text::digit::value_of;
 // have no branch, for digits are hard to foretell.
 pub fn decode(digits: &[u8], into: &mut [u8]) -> Option<u8>
     requires { length digits.now ≡ 2 * length into.old }
-    ensures sums { MatchOption result (all_digits digits.now ≡ false) (λ s. (all_digits digits.now ≡ true) × (s ≡ sum (bytes_of digits.now) % 256) × (into.new ≡ bytes_of digits.now)) }
+    ensures { Decoded digits.now into.new result }
 {
     let mut sum = 0u8;
     let mut worst = 0u8;

@@ -1,7 +1,7 @@
 // The reader: a text into lent memory, each line once.
 ghost use Rattle.std.specs.Prelude.{◌≡◌};
 ghost use Rattle.intel_hex.specs.Reader.{zeros, records, read_on, reading, read};
-ghost use Rattle.intel_hex.specs.Walk.{told};
+ghost use Rattle.intel_hex.specs.Walk.{came_to};
 
 use crate::cut::cut;
 use crate::records::{Came, record};
@@ -9,7 +9,7 @@ use crate::refused::Refusal;
 use memory::length::length_is_bad;
 
 fn read_lines(text: &[u8], memory: &mut [u8]) -> Result<(), Refusal>
-    ensures { told result memory.new ≡ read_on 0 0 memory.old (records text.now) }
+    ensures { came_to result memory.new ≡ read_on 0 0 memory.old (records text.now) }
 {
     let mut at = 0;
     let mut line = 0;
@@ -31,16 +31,16 @@ fn read_lines(text: &[u8], memory: &mut [u8]) -> Result<(), Refusal>
     Err(Refusal::NoEnd { lines: line })
 }
 
-// A refused text leaves memory zero.
-fn cleared(memory: &mut [u8], refusal: Refusal) -> Refusal
+// A refused text leaves the lent memory zero.
+fn cleared(lent: &mut [u8], refusal: Refusal) -> Refusal
     ensures refusal { result ≡ refusal }
-    ensures memory { memory.new ≡ zeros memory.old }
+    ensures memory { lent.new ≡ zeros lent.old }
 {
-    memory.fill(0);
+    lent.fill(0);
     refusal
 }
 
-// Memory is cleared before the first line.
+// Memory is cleared before the first line, for bytes that no record names are 0.
 pub fn read(text: &[u8], memory: &mut [u8]) -> Result<(), Refusal>
     ensures { reading result memory.new ≡ read text.now memory.old }
 {

@@ -3,7 +3,7 @@
 ghost use Rattle.std.specs.Prelude.{ℕ, ◌≡◌, ◌+◌, ◌*◌, ◌/◌, ◌%◌, ◌≤◌, ◌&&◌, true, eqb, List, ◌∷◌, length, take, sum};
 ghost use Rattle.intel_hex.specs.Record.{Record, all_digits, bytes_of};
 ghost use Rattle.intel_hex.specs.Reader.{place, read_on};
-ghost use Rattle.intel_hex.specs.Walk.{counted, headed, goes};
+ghost use Rattle.intel_hex.specs.Walk.{counted_record, headed_record, goes};
 
 use crate::digits::decode;
 
@@ -44,7 +44,7 @@ impl Head {
     }
 
     // So many bytes of data, and address 0000.
-    fn has(self, count: u8) -> bool
+    fn fixed(self, count: u8) -> bool
         ensures { result ≡ (eqb self.count count && eqb (self.high * 256 + self.low) 0) }
     {
         self.count == count && self.address() == 0
@@ -72,13 +72,13 @@ fn sound(h: Head, digits: &[u8]) -> bool
     requires { length digits.now ≡ 2 * (h.count + 1) }
     ensures { result ≡ (all_digits digits.now && eqb ((h.count + h.high + h.low + h.kind + sum (bytes_of digits.now)) % 256) 0) }
 {
-    let mut nowhere = [0u8; 255];
+    let mut nowhere = [0u8; u8::MAX as usize];
     sound_in(h, digits, &mut nowhere[..h.count as usize])
 }
 
 fn data(h: Head, digits: &[u8], memory: &mut [u8], upper: u32) -> Came
     requires { (h.kind ≡ 0) × (length digits.now ≡ 2 * (h.count + 1)) }
-    ensures { (k : ℕ) (later : List Record) → read_on k upper memory.old (headed h digits.now ∷ later) ≡ goes k memory.new later result }
+    ensures { (k : ℕ) (later : List Record) → read_on k upper memory.old (headed_record h digits.now ∷ later) ≡ goes k memory.new later result }
 {
     let at = upper as usize * 65536 + h.address() as usize;
     let end = at + h.count as usize;
@@ -99,20 +99,20 @@ fn data(h: Head, digits: &[u8], memory: &mut [u8], upper: u32) -> Came
 
 fn end(h: Head, digits: &[u8]) -> Came
     requires { (h.kind ≡ 1) × (length digits.now ≡ 2 * (h.count + 1)) }
-    ensures { (mem : List ℕ) (upper k : ℕ) (later : List Record) → read_on k upper mem (headed h digits.now ∷ later) ≡ goes k mem later result }
+    ensures { (mem : List ℕ) (upper k : ℕ) (later : List Record) → read_on k upper mem (headed_record h digits.now ∷ later) ≡ goes k mem later result }
 {
-    if h.has(0) && sound(h, digits) {
+    if h.fixed(0) && sound(h, digits) {
         Came::End
     } else {
         Came::Unsound
     }
 }
 
-fn upper(h: Head, digits: &[u8]) -> Came
+fn upper_half(h: Head, digits: &[u8]) -> Came
     requires { (h.kind ≡ 4) × (length digits.now ≡ 2 * (h.count + 1)) }
-    ensures { (mem : List ℕ) (upper k : ℕ) (later : List Record) → read_on k upper mem (headed h digits.now ∷ later) ≡ goes k mem later result }
+    ensures { (mem : List ℕ) (upper k : ℕ) (later : List Record) → read_on k upper mem (headed_record h digits.now ∷ later) ≡ goes k mem later result }
 {
-    if !h.has(2) {
+    if !h.fixed(2) {
         return Came::Unsound;
     }
     let mut half = [0u8; 2];
@@ -126,20 +126,19 @@ fn upper(h: Head, digits: &[u8]) -> Came
 
 fn typed(h: Head, digits: &[u8], memory: &mut [u8], upper: u32) -> Came
     requires { length digits.now ≡ 2 * (h.count + 1) }
-    ensures { (k : ℕ) (later : List Record) → read_on k upper memory.old (headed h digits.now ∷ later) ≡ goes k memory.new later result }
+    ensures { (k : ℕ) (later : List Record) → read_on k upper memory.old (headed_record h digits.now ∷ later) ≡ goes k memory.new later result }
 {
-    let kind = h.kind;
-    match kind {
+    match h.kind {
         0 => data(h, digits, memory, upper),
         1 => end(h, digits),
-        4 => self::upper(h, digits),
+        4 => upper_half(h, digits),
         _ => Came::Unsound,
     }
 }
 
 pub fn record(count: u8, digits: &[u8], memory: &mut [u8], upper: u32) -> Came
     requires { length digits.now ≡ 2 * (count + 4) }
-    ensures { (k : ℕ) (later : List Record) → read_on k upper memory.old (counted count digits.now ∷ later) ≡ goes k memory.new later result }
+    ensures { (k : ℕ) (later : List Record) → read_on k upper memory.old (counted_record count digits.now ∷ later) ≡ goes k memory.new later result }
 {
     let mut head = [0u8; 3];
     let Some(_) = decode(&digits[..6], &mut head) else {

@@ -1,4 +1,5 @@
--- How long a lent memory may be (paper 01, "Numbers caused by the input"): what every call that takes one refuses with 1.
+-- How long a lent memory may be (paper 01, "Numbers caused by the input"): what a start, and a read or a write of Intel HEX, refuse with 1. A run has
+-- 12 and 11 for it.
 use Rattle.std.specs.Prelude.{ℕ, ◌%◌, ◌≤◌, ◌≡◌, Bool, true, false, not, ◌||◌, ltb, eqb}
 
 abbrev pub length_refused : ℕ

@@ -4,3 +4,4 @@ pub mod Calling
 pub mod Refusals
 pub mod Settling
 pub mod Lists
+pub mod HexTrip

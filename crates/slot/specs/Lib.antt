@@ -4,3 +4,4 @@ pub mod Kept
 pub mod Refusals
 pub mod Lists
 pub mod Hex
+pub mod HexTrip

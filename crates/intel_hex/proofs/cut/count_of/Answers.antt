@@ -4,5 +4,5 @@ use Rattle.intel_hex.proofs.cut.count_of.Goals as goal
 
 pub returns : goal.returns
 returns c =
-    let sums = c.in_ok-decode.ensures.sums in
+    let sums = c.in_ok-decode.ensures in
     count-decoded c.args.text.now _ c.if-text-lt3.false c.if-text-ne58.false sums.0 sums.2

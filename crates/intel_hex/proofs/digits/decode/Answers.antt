@@ -20,17 +20,14 @@ loop-k-preserved c =
 pub returns-then-worst-lt16 : goal.returns-then-worst-lt16
 returns-then-worst-lt16 c =
     let l = c.loop-k in
-    let end : length c.args.digits.now ≤ 2 * l.k = omega (arith, c.requires, c.loop-k-test.false) in
-    record {
-      sums = (
-        end-digits _ l.k l.worst end l.invariant.digits ∙ lt-ltb l.worst 16 c.if-worst-lt16.true,
-        end-sum _ l.k l.sum end (omega (arith, l.auto.sum-fits)) (l.invariant.summed c.if-worst-lt16.true),
-        end-held _ l.into l.k end (omega (arith, l.auto.into, c.loop-k-test.false)) (l.invariant.held c.if-worst-lt16.true),
-      );
-    }
+    let end : length c.args.digits.now ≤ 2 * l.k = omega (arith, c.requires, c.loop-k-test.false) in (
+      end-digits _ l.k l.worst end l.invariant.digits ∙ lt-ltb l.worst 16 c.if-worst-lt16.true,
+      end-sum _ l.k l.sum end (omega (arith, l.auto.sum-fits)) (l.invariant.summed c.if-worst-lt16.true),
+      end-held _ l.into l.k end (omega (arith, l.auto.into, c.loop-k-test.false)) (l.invariant.held c.if-worst-lt16.true),
+    )
 
 pub returns-else-worst-lt16 : goal.returns-else-worst-lt16
 returns-else-worst-lt16 c =
     let l = c.loop-k in
     let end : length c.args.digits.now ≤ 2 * l.k = omega (arith, c.requires, c.loop-k-test.false) in
-    record { sums = end-digits _ l.k l.worst end l.invariant.digits ∙ le-ltb l.worst 16 c.if-worst-lt16.false }
+    end-digits _ l.k l.worst end l.invariant.digits ∙ le-ltb l.worst 16 c.if-worst-lt16.false

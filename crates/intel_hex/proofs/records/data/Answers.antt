@@ -1,6 +1,7 @@
 -- A data record: unsound, put into memory, of no bytes, or beyond it. Assumes nothing.
 use Rattle.std.proofs.Common.{◌≡◌, length, arith, refl, sym, ◌∙◌}
-use Rattle.intel_hex.proofs.Heads.{unsound-head, data-head, data-length, read-unsound, read-none, read-beyond, part-length, put-inside}
+use Rattle.intel_hex.proofs.Heads.{unsound-head, data-head, data-length, read-unsound, read-none, read-beyond, put-inside}
+use Rattle.intel_hex.proofs.Over.{part-length}
 use Rattle.intel_hex.proofs.records.data.Goals as goal
 
 pub returns-then-sound_in : goal.returns-then-sound_in
