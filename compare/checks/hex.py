@@ -226,7 +226,7 @@ def check_objcopy(checks, folder):
             checks.check(f"objcopy reads {name} as it is", (folder / "back").read_bytes() == raw)
     # A start that is not 0 is a record of type 03 or 05, right behind the one of the image.
     (folder / "image").write_bytes(COUNTDOWN)
-    read, refused = (0, COUNTDOWN, ""), (1, b"", f"hex: {refusal(41, 2)}")
+    read, refused = (0, COUNTDOWN, ""), (1, b"", f"hex: text: {refusal(41, 2)}")
     for start, came in [("0", read), ("0x100", refused), ("0x200000", refused)]:
         if checks.command(f"objcopy writes a start of {start}", ["objcopy", "-I", "binary", "-O", "ihex", "--set-start", start, "image", "text"], cwd=folder):
             ended = hexed(folder, ["read", "--length", "16", "text"])
@@ -239,6 +239,7 @@ def check_refused(checks, folder, name, words, status, told):
     kept.write_bytes(b"kept")
     before = kept.stat()
     came = [hexed(folder, [*words, *output]) for output in ([], ["kept"], ["absent"])]
+    told = f"{words[-1]}: {told}"
     after = kept.stat()
     stays = kept.read_bytes() == b"kept" and (before.st_ino, before.st_mtime_ns) == (after.st_ino, after.st_mtime_ns) and not absent.exists()
     detail = "\n".join(f"status {status}, {len(out)} bytes, {said}" for status, out, said in came)
