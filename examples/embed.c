@@ -118,33 +118,6 @@ static int window(const char *text, uint64_t *from, uint64_t *to)
            *from % 4 == 0 && *to % 4 == 0 && *from < *to;
 }
 
-/* The bytes that the coming cycle stores, 0, 1 or 4, and where: the header's way. */
-static uint32_t coming_store(const uint32_t *core, uint32_t *address)
-{
-    uint32_t record[SLOT_RECORD_WORDS];
-    *address = core[SLOT_CORE_ADDRESS];
-    if (core[SLOT_CORE_PHASE] < SLOT_PHASE_STEP2) {
-        return 0;
-    }
-    slot_word_read(core[SLOT_CORE_IX], record);
-    if (record[SLOT_RECORD_L] != 0) {
-        return 0;
-    }
-    switch (record[SLOT_RECORD_CLASS]) {
-    case SLOT_CLASS_SINGLE:
-        if (record[SLOT_RECORD_B] == 1) {
-            return 1;
-        }
-        break;
-    case SLOT_CLASS_BLOCK:
-        break;
-    default:
-        return 0;
-    }
-    *address -= *address % 4;
-    return 4;
-}
-
 /* A count of the array: its low word and the next. */
 static uint64_t count(const uint32_t *core, size_t low)
 {
@@ -173,7 +146,7 @@ static void watch(uint32_t *core, size_t length, uint64_t from, uint64_t to, uin
     uint64_t used, cycles = 0, last = 0, stores = 0;
     uint32_t answer = SLOT_OK;
     while (answer == SLOT_OK && cycles < most && !ferror(stdout)) {
-        uint32_t address, bytes = coming_store(core, &address), datum = core[SLOT_CORE_DATUM];
+        uint32_t address, bytes = slot_core_store(core, &address), datum = core[SLOT_CORE_DATUM];
         answer = slot_core_run(core, memory, length, 1, &used);
         cycles += used;
         if (bytes != 0 && address >= from && address < to) {

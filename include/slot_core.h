@@ -1,18 +1,18 @@
 /* The machines of the library slot (archive libslot.a): C11 and C++17, for gcc or clang on x86-64 Linux.
  *
- * A core, a plain machine and a word's record are arrays of 32-bit words that the caller owns; the calls keep nothing
- * between them, allocate nothing and touch nothing but what they are lent. No pointer may be null, and no array, memory
- * or text of one call may overlap another. Memory is bytes, a word's lowest byte first; its length is 16 to 65,536, a
- * multiple of 4.
+ * A core, a plain machine, a word's record and a summary of stores are arrays of 32-bit words that the caller owns; the
+ * calls keep nothing between them, allocate nothing and touch nothing but what they are lent. No pointer may be null, and
+ * no array, memory or text of one call may overlap another. Memory is bytes, a word's lowest byte first; its length is 16
+ * to 65,536, a multiple of 4.
  *
  * Threads: calls on different arrays and memories may run at once, in any number. One array or memory is one call's at
  * a time.
  *
- * Every call but slot_word_read and slot_abi_2 answers one of the numbers below.
+ * Every call but slot_word_read, slot_core_store and slot_abi_2 answers one of the numbers below.
  *
  * ---- what stands below
- *   version and layout; numbers; a core's array, how to read it between calls, and the ticks of the slot memory; a
- *   plain machine's array; a word's record; images as Intel HEX; the calls. */
+ *   version and layout; numbers; a core's array, how to read it between calls, and the ticks of the slot memory; stores
+ *   and the rate; a plain machine's array; a word's record; images as Intel HEX; the calls. */
 #ifndef SLOT_CORE_H
 #define SLOT_CORE_H
 
@@ -29,7 +29,7 @@ extern "C" {
  * changes. Each file that includes this header refers to slot_abi_2, which only an archive of that number has, so a
  * program built with this header and another archive does not link: "undefined reference to `slot_abi_2'". A language
  * without this header refers to slot_abi_2 itself, or looks it up before its first call. It answers the number. */
-#define SLOT_VERSION "0.9.0"
+#define SLOT_VERSION "0.10.0"
 #define SLOT_ABI 2
 uint32_t slot_abi_2(void);
 
@@ -45,22 +45,22 @@ static uint32_t (*const slot_abi_wanted)(void) SLOT_ABI_KEPT = slot_abi_2;
 
 /* ---- numbers
  *
- * 0 is done, 1 to 20 are refusals, 21 to 40 are stops, 41 to 43 are refusals of slot_hex_read. A refused call changes no
- * array and no memory, but for two: a refused start leaves its array all 0, and a slot_hex_read that is refused with 41
- * to 43 its memory. A stop is kept in the array, costs no cycle and changes nothing else; later runs and settles answer
- * it again. It is found before the instruction at A does anything, and only where the budget is not yet spent: a run
- * whose last cycle reaches A answers 0, and the next one finds the stop. A settle finds none. */
+ * 0 is done, 1 to 20 are refusals, 21 to 40 are stops, 41 to 43 are refusals of slot_hex_read, 58 is one of slot_rate_run.
+ * A refused call changes no array and no memory, but for two: a refused start leaves its array all 0, and a slot_hex_read
+ * that is refused with 41 to 43 its memory. A stop is kept in the array, costs no cycle and changes nothing else; later
+ * runs and settles answer it again. It is found before the instruction at A does anything, and only where the budget is
+ * not yet spent: a run whose last cycle reaches A answers 0, and the next one finds the stop. A settle finds none. */
 enum {
     SLOT_OK = 0,             /* done; of a run: the budget is spent; of a settle: the core is on a boundary */
     SLOT_BAD_LENGTH = 1,     /* start, hex_read, hex_line: the memory's length */
     SLOT_BAD_ENTRY = 2,      /* start: the entry is no multiple of 4, or not below the length */
-    SLOT_BAD_BUDGET = 3,     /* run: a budget above 1,000,000 */
+    SLOT_BAD_BUDGET = 3,     /* run, rate_run: a budget above 1,000,000 */
     SLOT_BAD_FLAGS = 4,      /* start: flags above 15 */
     SLOT_NO_WORD = 5,        /* write: the array stands for no record, or the record has no word */
-    SLOT_BAD_RECORD = 11,    /* run, settle: the array stands for no core, or for none that a run can be in */
-    SLOT_OTHER_MEMORY = 12,  /* run, settle: memory of another length than the array's; tested before 11 */
-    SLOT_TOO_MANY = 13,      /* run, settle: the budget, or the cycles left, would carry the cycles past 2^40; see "long
-                                runs" below */
+    SLOT_BAD_RECORD = 11,    /* run, settle, rate_run: the array stands for no core, or for none that a run can be in */
+    SLOT_OTHER_MEMORY = 12,  /* run, settle, rate_run: memory of another length than the array's; tested before 11 */
+    SLOT_TOO_MANY = 13,      /* run, settle, rate_run: the budget, or the cycles left, would carry the cycles past 2^40; see
+                                "long runs" below */
     SLOT_STOP_NO_WORD = 21,  /* no word at A: the program ran past the end of memory */
     SLOT_STOP_OTHER = 22,    /* the word at A is SLOT_CLASS_OTHER: a SWI, as programs end in, or one this core has not */
     SLOT_STOP_FORBIDDEN = 23, /* the word at A is a form that the rules forbid, such as a block of no registers */
@@ -70,7 +70,8 @@ enum {
     SLOT_STOP_LAST = 25,
     SLOT_HEX_UNSOUND = 41,   /* hex_read: a line is no sound record of type 00, 01 or 04 */
     SLOT_HEX_OUTSIDE = 42,   /* hex_read: a line has a data byte at or above the memory's length */
-    SLOT_HEX_NO_END = 43     /* hex_read: the text ends without an end record */
+    SLOT_HEX_NO_END = 43,    /* hex_read: the text ends without an end record */
+    SLOT_BAD_WINDOW = 58     /* rate_run: the window is off a word, empty, or ends above the memory's length */
 };
 
 /* ---- a core: the index of each word */
@@ -117,20 +118,16 @@ enum {
  * its register is not, a block load has the lower of its registers and not the higher. A is PC-12 in steps 2 and up.
  * From a start a boundary is at most 19 cycles away. slot_core_settle goes on to the next: call it before R0 to R14 are read.
  *
- * Does the coming cycle store, where, and how much? With no stop held, exactly where PHASE is SLOT_PHASE_STEP2 or
- * above and IX is a store:
+ * Does the coming cycle store? slot_core_store tells; see "stores and the rate" below.
+ *
+ * Does the coming cycle load? With no stop held, only where PHASE is SLOT_PHASE_STEP2 or above and IX is a load:
  *
  *     slot_word_read(core[SLOT_CORE_IX], record);
- *     record[SLOT_RECORD_L] == 0, and record[SLOT_RECORD_CLASS] is SLOT_CLASS_SINGLE or SLOT_CLASS_BLOCK
+ *     record[SLOT_RECORD_L] == 1, and record[SLOT_RECORD_CLASS] is SLOT_CLASS_SINGLE or SLOT_CLASS_BLOCK
  *
- * A SLOT_CLASS_SINGLE with record[SLOT_RECORD_B] == 1 stores 1 byte, DATUM modulo 256, at ADDRESS. Every other store is
- * 4 bytes, DATUM, at ADDRESS with its low two bits cleared; a block store comes up once for each of its words, in a
- * cycle each. So a host that runs with budget 1 and asks this before each call sees every store, also one of the value
- * that is there already. examples/embed.c does.
- *
- * Does the coming cycle load? Likewise with record[SLOT_RECORD_L] == 1: a SLOT_CLASS_SINGLE reads in step 2, where PHASE
- * is SLOT_PHASE_STEP2; a SLOT_CLASS_BLOCK of n registers reads a word in each of steps 2 to n+1, where PHASE is
- * SLOT_PHASE_STEP2 to n+2. What it reads is at ADDRESS, and is taken from memory in that cycle.
+ * A SLOT_CLASS_SINGLE reads in step 2, where PHASE is SLOT_PHASE_STEP2; a SLOT_CLASS_BLOCK of n registers reads a word
+ * in each of steps 2 to n+1, where PHASE is SLOT_PHASE_STEP2 to n+2. What it reads is at ADDRESS, and is taken from
+ * memory in that cycle.
  *
  * A host may change memory between calls: it is the caller's. So a device can answer a load, by putting its word at
  * ADDRESS before the call that does the reading cycle. What is fetched stays as it was fetched: at a boundary IX and IR2
@@ -172,6 +169,71 @@ enum {
  * nothing. To go on, at a boundary (slot_core_settle): add CYCLES, RETIRED and the three sums to totals of your own, set
  * all five, and their high words, to 0, and call again. Sums left as they are would be above CYCLES, and the call be
  * refused with 11. Nothing else in a core depends on the five. */
+
+/* ---- stores and the rate
+ *
+ * To watch addresses, run with a budget of 1, and before each run ask slot_core_store what the cycle to come stores:
+ *
+ *     uint32_t address, bytes = slot_core_store(core, &address), datum = core[SLOT_CORE_DATUM];
+ *     uint32_t answer = slot_core_run(core, memory, length, 1, &used);
+ *     if (answer == SLOT_OK && bytes != 0 && address >= from && address < to) {
+ *         take(address, bytes, bytes == 1 ? datum % 256 : datum);
+ *     }
+ *
+ * `take`, yours, sees every store so, also one of the value that is there already. `bytes` is 4 for a word, whose address
+ * has its low two bits cleared, 1 for a byte, whose address is its own, and 0 where the cycle stores nothing. A block
+ * store comes up once for each of its words, in a cycle each. examples/embed.c watches a link buffer in this way.
+ *
+ * For the data rate of a long run let slot_rate_run watch. It is slot_core_run, and folds each store whose address lies in
+ * the window from `from` up to, and without, `to` into a summary: an array of SLOT_RATE words that the caller keeps from
+ * call to call. All 0 it is the summary of no stores; begin with that.
+ *
+ *     uint32_t summary[SLOT_RATE] = {0}, answer = SLOT_OK;
+ *     for (uint64_t left = cycles; left > 0 && answer == SLOT_OK; left -= used) {
+ *         answer = slot_rate_run(core, memory, length, left < 1000000 ? left : 1000000, &used, from, to, summary);
+ *     }
+ *
+ * It does not matter how a run is split: calls of any budgets leave the summary that one call would. A summary is eleven
+ * numbers of 64 bits, each as its low word and then, at the name with _HIGH, its high one. The cycle of a store is what
+ * CYCLES is after the cycle that writes. Its tick is the ticks above, up to and with the write: the start's 3, those of
+ * all instructions before, 2 + 2 for a store's two N, and 1 more for each word of a block store before this one. Cycles
+ * and ticks each stand for themselves: the least gap in cycles and the least in ticks may be those of different stores.
+ *
+ * A gap is the time from a store to the next. It is told as 0 where the next one's time is below: where the counts were
+ * set back, as for a long run. The gaps are 0 before the second store. Where STORES is 0 nothing else of the array is
+ * looked at. STORES and BITS stay at 2^64-1 where they would pass it.
+ *
+ * The mean rate in bits a second, where so many ticks are a second, is of the bits after the first store:
+ *
+ *     (BITS - FIRST_BITS) * ticks_a_second / (LAST_TICK - FIRST_TICK)
+ *
+ * A mean is not yet the option to order: a pause lowers it, and it does not say what a buffer must hold. The command
+ * ./rate works out the option from the stores; docs/RATE.md explains how. */
+enum {
+    SLOT_RATE_STORES = 0,                   /* stores: a word or a byte each */
+    SLOT_RATE_STORES_HIGH = 1,
+    SLOT_RATE_BITS = 2,                     /* 32 for a word, 8 for a byte */
+    SLOT_RATE_BITS_HIGH = 3,
+    SLOT_RATE_FIRST_BITS = 4,               /* those of the first store */
+    SLOT_RATE_FIRST_BITS_HIGH = 5,
+    SLOT_RATE_FIRST_CYCLE = 6,
+    SLOT_RATE_FIRST_CYCLE_HIGH = 7,
+    SLOT_RATE_LAST_CYCLE = 8,
+    SLOT_RATE_LAST_CYCLE_HIGH = 9,
+    SLOT_RATE_LEAST_GAP_CYCLES = 10,        /* from a store to the next */
+    SLOT_RATE_LEAST_GAP_CYCLES_HIGH = 11,
+    SLOT_RATE_GREATEST_GAP_CYCLES = 12,
+    SLOT_RATE_GREATEST_GAP_CYCLES_HIGH = 13,
+    SLOT_RATE_FIRST_TICK = 14,
+    SLOT_RATE_FIRST_TICK_HIGH = 15,
+    SLOT_RATE_LAST_TICK = 16,
+    SLOT_RATE_LAST_TICK_HIGH = 17,
+    SLOT_RATE_LEAST_GAP_TICKS = 18,
+    SLOT_RATE_LEAST_GAP_TICKS_HIGH = 19,
+    SLOT_RATE_GREATEST_GAP_TICKS = 20,
+    SLOT_RATE_GREATEST_GAP_TICKS_HIGH = 21,
+    SLOT_RATE = 22                          /* the words of a summary */
+};
 
 /* ---- a plain machine: the index of each word */
 enum {
@@ -319,7 +381,20 @@ uint32_t slot_core_run(uint32_t *core, uint8_t *memory, size_t length, uint64_t 
  * cycles of both count towards CYCLES. */
 uint32_t slot_core_settle(uint32_t *core, uint8_t *memory, size_t length, uint64_t *used);
 
-/* The same for the plain machine, which has no pipeline: a run counts instructions, and tests 12, 11, 3. */
+/* The bytes that the core's coming cycle stores, 0, 1 or 4, and in *address where, 0 where it stores nothing. Asked of a
+ * core that holds a stop, or of an array that stands for none (a word marked neither 0 nor 1), both are 0; what else makes
+ * a run refuse with 11 is not looked at. */
+uint32_t slot_core_store(const uint32_t *core, uint32_t *address);
+
+/* slot_core_run, with the same answer, *used, core and memory afterwards, that folds the stores of its cycles into the
+ * summary: those whose address is at `from` or above, and below `to`. It tests what slot_core_run does, 12, 11, 3, 13 in
+ * this order, then the window: 58 where `from` or `to` is no multiple of 4, `from` is not below `to`, or `to` is above the
+ * length; then only it answers a stop that the core holds. A refused one writes neither core, memory nor summary, and
+ * sets *used to 0. */
+uint32_t slot_rate_run(uint32_t *core, uint8_t *memory, size_t length, uint64_t budget, uint64_t *used, uint32_t from,
+                       uint32_t to, uint32_t *summary);
+
+/* Start and run of the plain machine, which has no pipeline: a run counts instructions, and tests 12, 11, 3. */
 uint32_t slot_plain_start(uint32_t *plain, const uint32_t *registers, uint32_t flags, uint32_t entry,
                           const uint8_t *memory, size_t length);
 uint32_t slot_plain_run(uint32_t *plain, uint8_t *memory, size_t length, uint64_t count, uint64_t *used);

@@ -631,7 +631,8 @@ static uint32_t random_word(void)
     return (uint32_t)(seed >> 16);
 }
 
-/* The bytes, 0, 1 or 4, of the coming cycle's store (l is 0) or load (l is 1), by the header's text. */
+/* The bytes, 0, 1 or 4, of the coming cycle's store (l is 0) or load (l is 1): of a load by the header's text, of a store by
+ * the same fields. */
 static uint32_t coming(uint32_t l, uint32_t *address)
 {
     uint32_t record[SLOT_RECORD_WORDS], n = 0;
@@ -689,7 +690,10 @@ static void watched_cycle(unsigned *stores, unsigned *loads)
 {
     uint32_t before[SLOT_CORE_WORDS], at, from;
     uint8_t expected[LENGTH];
-    const uint32_t stored = coming(0, &at), loaded = coming(1, &from);
+    uint32_t where = 99;
+    const uint32_t stored = coming(0, &at), loaded = coming(1, &from), told = slot_core_store(core, &where);
+    so(told == stored, "slot_core_store tells the bytes of the coming cycle", core[SLOT_CORE_IX]);
+    so(where == (stored == 0 ? 0 : stored == 1 ? at : at & ~3u), "and where they are stored", where);
     if (stored != 0) {
         put(at & ~3u, random_word()); /* so that a store of the value that is there shows too */
         (*stores)++;
@@ -744,6 +748,259 @@ static void watched_images(void)
     }
     so(stores > 10000 && loads > 10000, "there were stores and loads enough", stores);
     printf("watched: %u stores, %u loads\n", stores, loads);
+}
+
+/* ---- stores and the rate */
+
+enum { RATED = 5000 };
+
+struct times { uint64_t first, last, least, greatest; };
+
+static struct { uint64_t stores, bits, first_bits; struct times cycles, ticks; } seen;
+
+static uint64_t coming_tick; /* of the coming cycle's store, if it stores */
+
+static void timed(struct times *t, uint64_t at)
+{
+    const uint64_t gap = at - t->last;
+    if (seen.stores == 0) {
+        t->first = at;
+    } else {
+        t->least = seen.stores == 1 || gap < t->least ? gap : t->least;
+        t->greatest = gap > t->greatest ? gap : t->greatest;
+    }
+    t->last = at;
+}
+
+/* A store that was seen by single cycles, which must be in memory now. */
+static void take(uint32_t address, uint32_t bytes, uint32_t datum)
+{
+    so((bytes == 1 ? memory[address] : word_at(memory, address)) == datum, "a store that was told is in memory", address);
+    timed(&seen.cycles, count(SLOT_CORE_CYCLES));
+    timed(&seen.ticks, coming_tick);
+    seen.first_bits = seen.stores == 0 ? 8 * bytes : seen.first_bits;
+    seen.bits += 8 * bytes;
+    seen.stores++;
+}
+
+/* A cycle, by the header's lines. */
+static uint32_t watch_cycle(size_t length, uint32_t from, uint32_t to)
+{
+    uint64_t used;
+    coming_tick = ticks() + 4 + core[SLOT_CORE_PHASE] - SLOT_PHASE_STEP2;
+    uint32_t address, bytes = slot_core_store(core, &address), datum = core[SLOT_CORE_DATUM];
+    uint32_t answer = slot_core_run(core, memory, length, 1, &used);
+    if (answer == SLOT_OK && bytes != 0 && address >= from && address < to) {
+        take(address, bytes, bytes == 1 ? datum % 256 : datum);
+    }
+    return answer;
+}
+
+/* Likewise. */
+static uint32_t rate(size_t length, uint64_t cycles, uint32_t from, uint32_t to, uint32_t *told)
+{
+    uint64_t used;
+    uint32_t summary[SLOT_RATE] = {0}, answer = SLOT_OK;
+    for (uint64_t left = cycles; left > 0 && answer == SLOT_OK; left -= used) {
+        answer = slot_rate_run(core, memory, length, left < 1000000 ? left : 1000000, &used, from, to, summary);
+    }
+    memcpy(told, summary, sizeof summary);
+    return answer;
+}
+
+/* A number of a summary: its low word and the next. */
+static uint64_t number(const uint32_t *summary, size_t low)
+{
+    return (uint64_t)summary[low + 1] << 32 | summary[low];
+}
+
+static int times_are(const uint32_t *summary, size_t first, size_t last, size_t least, size_t greatest, const struct times *t)
+{
+    return number(summary, first) == t->first && number(summary, last) == t->last && number(summary, least) == t->least && number(summary, greatest) == t->greatest;
+}
+
+/* Whether a summary tells what was seen. */
+static int tells(const uint32_t *summary)
+{
+    return number(summary, SLOT_RATE_STORES) == seen.stores && number(summary, SLOT_RATE_BITS) == seen.bits &&
+           number(summary, SLOT_RATE_FIRST_BITS) == seen.first_bits &&
+           times_are(summary, SLOT_RATE_FIRST_CYCLE, SLOT_RATE_LAST_CYCLE, SLOT_RATE_LEAST_GAP_CYCLES, SLOT_RATE_GREATEST_GAP_CYCLES, &seen.cycles) &&
+           times_are(summary, SLOT_RATE_FIRST_TICK, SLOT_RATE_LAST_TICK, SLOT_RATE_LEAST_GAP_TICKS, SLOT_RATE_GREATEST_GAP_TICKS, &seen.ticks);
+}
+
+/* MOV R0, #80; MOV R1, #41; STR R1, [R0] twice; STRB R1, [R0, #1]; STMIA R0!, {R1, R2}; SWI. By the tables of durations and ticks the stores are
+ * in cycles 6, 8, 10, 12, 13 and in ticks 9, 13, 17, 21, 22. */
+static const uint32_t sender[] = {0xE3A00080, 0xE3A01041, 0xE5801000, 0xE5801000, 0xE5C01001, 0xE8A00006, 0xEF000000};
+
+static void start_sender(void)
+{
+    begin(sender, sizeof sender / sizeof *sender, zeros, 0);
+}
+
+static void whole_rate(void)
+{
+    static const uint32_t all_five[SLOT_RATE] = {5, 0, 136, 0, 32, 0, 6, 0, 13, 0, 1, 0, 2, 0, 9, 0, 22, 0, 1, 0, 4, 0};
+    static const uint32_t last_alone[SLOT_RATE] = {1, 0, 32, 0, 32, 0, 13, 0, 13, 0, 0, 0, 0, 0, 22, 0, 22};
+    uint32_t told[SLOT_RATE];
+    start_sender();
+    so(rate(LENGTH, 100, 0x80, 0x88, told) == SLOT_STOP_OTHER && memcmp(told, all_five, sizeof told) == 0, "words, a byte and a block in a summary", told[0]);
+    const uint64_t mean = (number(told, SLOT_RATE_BITS) - number(told, SLOT_RATE_FIRST_BITS)) * 8000000 / (number(told, SLOT_RATE_LAST_TICK) - number(told, SLOT_RATE_FIRST_TICK));
+    so(mean == 64000000, "the mean rate: 104 bits in 13 ticks of 8 MHz", (uint32_t)mean);
+    start_sender();
+    so(rate(LENGTH, 100, 0x84, 0x88, told) == SLOT_STOP_OTHER && memcmp(told, last_alone, sizeof told) == 0, "a block across the window's edge; one store has no gap", told[0]);
+    start_sender();
+    so(rate(LENGTH, 100, 0x7C, 0x80, told) == SLOT_STOP_OTHER && memcmp(told, zeros, sizeof zeros) == 0, "no store at the window's end", told[0]);
+    start_sender();
+    so(rate(LENGTH, 11, 0x80, 0x88, told) == SLOT_OK && number(told, SLOT_RATE_STORES) == 5, "as many cycles as asked", told[0]);
+    start_sender();
+    so(rate(LENGTH, 10, 0x80, 0x88, told) == SLOT_OK && number(told, SLOT_RATE_STORES) == 4, "and none more", told[0]);
+}
+
+/* Sets a number of a summary. */
+static void set_number(uint32_t *summary, size_t low, uint64_t value)
+{
+    summary[low] = (uint32_t)value;
+    summary[low + 1] = (uint32_t)(value >> 32);
+}
+
+/* One more store, into whatever summary there is. */
+static void further(uint32_t *summary)
+{
+    uint64_t used;
+    start_sender();
+    so(slot_rate_run(core, memory, LENGTH, 4, &used, 0x80, 0x84, summary) == SLOT_OK && used == 4, "the first store's cycle", (uint32_t)used);
+}
+
+static void odd_summaries(void)
+{
+    uint32_t summary[SLOT_RATE];
+    memset(summary, 0xFF, sizeof summary);
+    further(summary);
+    so(number(summary, SLOT_RATE_STORES) == UINT64_MAX && number(summary, SLOT_RATE_BITS) == UINT64_MAX, "counts stay at 2^64-1", 0);
+    so(number(summary, SLOT_RATE_FIRST_BITS) == UINT64_MAX && number(summary, SLOT_RATE_FIRST_CYCLE) == UINT64_MAX && number(summary, SLOT_RATE_FIRST_TICK) == UINT64_MAX, "what is told of the first store stays", 0);
+    so(number(summary, SLOT_RATE_LAST_CYCLE) == 6 && number(summary, SLOT_RATE_LAST_TICK) == 9, "the last store is the last", 0);
+    so(number(summary, SLOT_RATE_LEAST_GAP_CYCLES) == 0 && number(summary, SLOT_RATE_LEAST_GAP_TICKS) == 0, "a gap below 0 is 0", 0);
+    so(number(summary, SLOT_RATE_GREATEST_GAP_CYCLES) == UINT64_MAX && number(summary, SLOT_RATE_GREATEST_GAP_TICKS) == UINT64_MAX, "and not the greatest", 0);
+    memset(summary, 0, sizeof summary);
+    set_number(summary, SLOT_RATE_STORES, UINT64_C(0xFFFFFFFF));
+    set_number(summary, SLOT_RATE_BITS, UINT64_MAX - 32);
+    further(summary);
+    so(number(summary, SLOT_RATE_STORES) == UINT64_C(1) << 32 && number(summary, SLOT_RATE_BITS) == UINT64_MAX, "a count rises into its high word", summary[1]);
+}
+
+/* The call on this window is refused with the number, and changes nothing. */
+static void rate_refused(size_t length, uint64_t budget, uint32_t from, uint32_t to, uint32_t refusal, const char *claim)
+{
+    uint32_t summary[SLOT_RATE], summary_before[SLOT_RATE], before[SLOT_CORE_WORDS];
+    uint8_t memory_before[LENGTH];
+    uint64_t used = 99;
+    memset(summary, 0xA5, sizeof summary);
+    memcpy(summary_before, summary, sizeof summary);
+    memcpy(before, core, sizeof before);
+    memcpy(memory_before, memory, LENGTH);
+    so(slot_rate_run(core, memory, length, budget, &used, from, to, summary) == refusal && used == 0, claim, from);
+    so(memcmp(before, core, sizeof before) == 0 && memcmp(memory_before, memory, LENGTH) == 0 && memcmp(summary_before, summary, sizeof summary) == 0, "a refused call changes nothing", refusal);
+}
+
+static void rate_refusals(void)
+{
+    static const uint32_t bad_windows[][2] = {
+        {2, 8}, {1, 8}, {0, 6}, {0, 255}, {8, 8}, {8, 4}, {0, 260}, {252, 260}, {256, 260}, {0, 0xFFFFFFFC}, {0xFFFFFFFC, 0}, {0, 0}, {256, 256}, {0x80000000, 0x80000004},
+    };
+    static const uint32_t good_windows[][2] = {{0, 256}, {252, 256}, {0, 4}};
+    uint64_t used = 99;
+    uint32_t summary[SLOT_RATE] = {0};
+    for (size_t i = 0; i < sizeof bad_windows / sizeof *bad_windows; i++) {
+        start_sender();
+        rate_refused(LENGTH, 5, bad_windows[i][0], bad_windows[i][1], SLOT_BAD_WINDOW, "58 is a window off a word, empty, or outside memory");
+    }
+    for (size_t i = 0; i < sizeof good_windows / sizeof *good_windows; i++) {
+        start_sender();
+        so(slot_rate_run(core, memory, LENGTH, 5, &used, good_windows[i][0], good_windows[i][1], summary) == SLOT_OK && used == 5, "a window of whole words in memory", good_windows[i][0]);
+    }
+    start_sender();
+    core[SLOT_CORE_CYCLES] = 0xFFFFFFFB;
+    core[SLOT_CORE_CYCLES_HIGH] = 0xFF;
+    rate_refused(LENGTH, 5, 2, 8, SLOT_BAD_WINDOW, "58 where the run would be done");
+    rate_refused(LENGTH, 6, 2, 8, SLOT_TOO_MANY, "13 before 58");
+    rate_refused(LENGTH, 1000001, 2, 8, SLOT_BAD_BUDGET, "3 before 13");
+    core[SLOT_CORE_FLAGS] = 16;
+    rate_refused(LENGTH, 1000001, 2, 8, SLOT_BAD_RECORD, "11 before 3");
+    core[SLOT_CORE_FLAGS] = 0;
+    core[SLOT_CORE_IX_VALID] = 2;
+    rate_refused(LENGTH, 1000001, 2, 8, SLOT_BAD_RECORD, "11 of an array that stands for no core");
+    rate_refused(LENGTH - 4, 1000001, 2, 8, SLOT_OTHER_MEMORY, "12 before 11");
+    start_sender();
+    so(run(100) == SLOT_STOP_OTHER, "a stop is held", 0);
+    rate_refused(LENGTH, 5, 2, 8, SLOT_BAD_WINDOW, "58 before a stop held is answered");
+    rate_refused(LENGTH, 5, 0, 8, SLOT_STOP_OTHER, "a stop held is answered, and changes nothing else");
+}
+
+/* What is told where the array stands for no core, or holds a stop. */
+static void odd_stores(void)
+{
+    static const size_t marks[] = {SLOT_CORE_IR1_VALID, SLOT_CORE_IR2_VALID, SLOT_CORE_IX_VALID};
+    uint32_t address = 99, before[SLOT_CORE_WORDS];
+    start_sender();
+    run(3);
+    so(slot_core_store(core, &address) == 4 && address == 0x80, "the first store comes", address);
+    core[SLOT_CORE_ADDRESS] = 0x83;
+    so(slot_core_store(core, &address) == 4 && address == 0x80, "a word's address has its low two bits cleared", address);
+    core[SLOT_CORE_FLAGS] = 16;
+    so(slot_core_store(core, &address) == 4 && address == 0x80, "what else is bad is not looked at", address);
+    memcpy(before, core, sizeof before);
+    for (uint32_t stop = SLOT_STOP_FIRST; stop <= SLOT_STOP_LAST; stop++) {
+        address = 99;
+        core[SLOT_CORE_STOP] = stop;
+        so(slot_core_store(core, &address) == 0 && address == 0, "0 and 0 of a core that holds a stop", stop);
+    }
+    memcpy(core, before, sizeof before);
+    for (size_t i = 0; i < sizeof marks / sizeof *marks; i++) {
+        address = 99;
+        core[marks[i]] = 2;
+        so(slot_core_store(core, &address) == 0 && address == 0, "0 and 0 of an array that stands for no core", (uint32_t)marks[i]);
+        memcpy(core, before, sizeof before);
+    }
+}
+
+/* Random images and windows: runs split at random leave core, memory and summary as single cycles do. */
+static void rated_images(void)
+{
+    uint64_t stores = 0;
+    for (unsigned image = 0; image < RATED; image++) {
+        uint32_t registers[15], words[LENGTH / 4], started[SLOT_CORE_WORDS], there[SLOT_CORE_WORDS], summary[SLOT_RATE], answer = SLOT_OK;
+        uint8_t bytes[LENGTH], bytes_there[LENGTH];
+        const uint32_t from = random_word() % 64 * 4, to = from + 4 + random_word() % (64 - from / 4) * 4, most = random_word() % CYCLES;
+        for (size_t k = 0; k < 15; k++) {
+            registers[k] = random_word() % LENGTH;
+        }
+        for (size_t k = 0; k < LENGTH / 4; k++) {
+            words[k] = random_instruction();
+        }
+        begin(words, LENGTH / 4, registers, random_word() % 16);
+        memcpy(started, core, sizeof started);
+        memcpy(bytes, memory, LENGTH);
+        memset(&seen, 0, sizeof seen);
+        for (uint32_t cycle = 0; cycle < most && answer == SLOT_OK; cycle++) {
+            answer = watch_cycle(LENGTH, from, to);
+        }
+        memcpy(there, core, sizeof there);
+        memcpy(bytes_there, memory, LENGTH);
+        memcpy(core, started, sizeof started);
+        memcpy(memory, bytes, LENGTH);
+        memset(summary, 0xA5, sizeof summary);
+        set_number(summary, SLOT_RATE_STORES, 0); /* so that nothing else of it is looked at */
+        uint32_t rated = SLOT_OK;
+        uint64_t used = 0;
+        for (uint64_t left = most; left > 0 && rated == SLOT_OK; left -= used) {
+            rated = slot_rate_run(core, memory, LENGTH, random_word() % (left + 1), &used, from, to, summary);
+        }
+        so(rated == answer && memcmp(core, there, sizeof there) == 0 && memcmp(memory, bytes_there, LENGTH) == 0, "a watched run, split, ends as single cycles do", image);
+        so(seen.stores == 0 ? number(summary, SLOT_RATE_STORES) == 0 && summary[SLOT_RATE_BITS] == 0xA5A5A5A5 : tells(summary), "and its summary is theirs", image);
+        stores += seen.stores;
+    }
+    so(stores > 4000, "there were stores into windows enough", (uint32_t)stores);
+    printf("rated: %u stores into windows\n", (unsigned)stores);
 }
 
 /* ---- images as Intel HEX */
@@ -1205,6 +1462,11 @@ int main(void)
     classes();
     multiplies();
     watched_images();
+    odd_stores();
+    whole_rate();
+    odd_summaries();
+    rate_refusals();
+    rated_images();
     read_texts();
     unsound_lines();
     types();

@@ -67,7 +67,7 @@ static ABI: unsafe extern "C" fn() -> c_uint = slot_abi_2;
 
 /// What results are filled with before a call, so that one left unwritten shows.
 pub(crate) const STALE: u32 = 0xA5A5_A5A5;
-const STALE_LONG: u64 = 0xA5A5_A5A5_A5A5_A5A5;
+pub(crate) const STALE_LONG: u64 = 0xA5A5_A5A5_A5A5_A5A5;
 
 /// The answer and the core.
 pub fn core_start(r: &[u32; 15], flags: u32, entry: u32, memory: &[u8]) -> (u32, CoreArray) {

@@ -15,6 +15,8 @@ pub enum Asked {
     Writes(u64),
     /// The one random Intel HEX file of this number.
     Hex(u64),
+    /// The one random image of this number, watched for its stores.
+    Rates(u64),
 }
 
 impl Asked {
@@ -25,6 +27,7 @@ impl Asked {
             [word, image] if word == "image" => number("NUMBER", image).map(Asked::Image),
             [word, image] if word == "writes" => number("NUMBER", image).map(Asked::Writes),
             [word, file] if word == "hex" => number("NUMBER", file).map(Asked::Hex),
+            [word, image] if word == "rates" => number("NUMBER", image).map(Asked::Rates),
             _ => Err(format!("no such arguments: {}", arguments.join(" "))),
         }
     }
@@ -38,6 +41,7 @@ impl fmt::Display for Asked {
             Asked::Image(number) => write!(out, "image {number}"),
             Asked::Writes(number) => write!(out, "writes {number}"),
             Asked::Hex(number) => write!(out, "hex {number}"),
+            Asked::Rates(number) => write!(out, "rates {number}"),
         }
     }
 }

@@ -14,6 +14,7 @@ pub struct Counts {
     pub writes: Writes,
     pub words: Words,
     pub hex: Hex,
+    pub rates: Rates,
 }
 
 impl Counts {
@@ -28,6 +29,7 @@ impl Counts {
             (self.plain.used, "instructions of the plain machine"),
             (self.words.words, "words"),
             (self.words.records, "records of words"),
+            (self.rates.cycles, "cycles watched for stores"),
             (self.hex.texts(), "Intel HEX texts"),
             (self.hex.lines, "Intel HEX lines"),
         ];
@@ -151,6 +153,47 @@ pub struct Writes {
     /// Runs that used LONG cycles or more, and those of them that began as above.
     pub long: u64,
     pub long_other: u64,
+}
+
+/// Cores that are asked what they store, and runs that watch a window.
+#[derive(Default)]
+pub struct Rates {
+    /// Answers that the coming cycle stores nothing, a byte, a word.
+    pub told: [u64; 3],
+    /// Such cycles done with what was told as the window.
+    pub as_told: u64,
+    pub images: u64,
+    pub runs: u64,
+    /// Runs held to the product's own unwatched ones as well, of all of which each has its turn.
+    pub both: u64,
+    pub beside: u64,
+    pub cycles: u64,
+    pub singles: u64,
+    pub stores: u64,
+    /// Summaries that no run has made.
+    pub summaries: u64,
+    pub tampered: u64,
+    pub tampered_bad: u64,
+    pub answers: BTreeMap<u32, u64>,
+}
+
+impl Rates {
+    /// A core's answer: where it stores, and how many bytes.
+    pub fn asks(&mut self, (_, bytes): (u32, u32)) {
+        self.told[match bytes {
+            0 => 0,
+            1 => 1,
+            _ => 2,
+        }] += 1;
+    }
+
+    pub fn saw(&mut self, answer: u32, used: u64, budget: u64, stores: u64) {
+        self.runs += 1;
+        self.cycles += used;
+        self.singles += u64::from(budget == 1 && used == 1);
+        self.stores += stores;
+        *self.answers.entry(answer).or_default() += 1;
+    }
 }
 
 /// Reader and writer.

@@ -30,6 +30,10 @@ pub const TAPS: [i32; 16] = [
 
 pub const NAMES: [&str; 5] = ["alu", "transfers", "crc", "mix", "fir"];
 
+/// One more, whose stores are watched: it hands frames to a link buffer, the last but three words.
+pub const SENDER: &str = "frames";
+pub const LINK: u32 = 0xFF0;
+
 pub fn image(name: &str) -> Option<Program> {
     match name {
         "alu" => Some(alu()),
@@ -37,6 +41,7 @@ pub fn image(name: &str) -> Option<Program> {
         "crc" => Some(crc()),
         "mix" => Some(mix()),
         "fir" => Some(fir()),
+        SENDER => Some(frames()),
         _ => None,
     }
 }
@@ -241,6 +246,30 @@ fn fir() -> Program {
     program
 }
 
+/// Frames of a sync word, fifteen words of data and their sum, and a wait between them.
+fn frames() -> Program {
+    let code = [
+        mov(1, rotated(14, LINK >> 4)),
+        mov(5, rotated(12, MESSAGE >> 8)),
+        mov(2, number(0x7E)), // 8: frame
+        mov(3, number(0)),
+        mov(4, plain(5)),
+        mov(6, number(15)),
+        str(2, 1, 0),
+        single(LOAD | UP, 0, 4, 4), // 28: word
+        op(ADD, 3, 3, plain(0)),
+        str(0, 1, 0),
+        ops(SUB, 6, 6, number(1)),
+        on(NE, branch_to(44, 28)),
+        str(3, 1, 0),
+        mov(6, number(100)),
+        ops(SUB, 6, 6, number(1)), // 56: wait
+        on(NE, branch_to(60, 56)),
+        branch_to(64, 8),
+    ];
+    program(&code, [0; 15])
+}
+
 fn put(program: &mut Program, address: u32, values: impl Iterator<Item = i32>) {
     let places = &mut program.words[address as usize / 4..];
     for (place, value) in places.iter_mut().zip(values) {
@@ -264,7 +293,7 @@ mod tests {
 
     #[test]
     fn none_stops() {
-        for name in NAMES {
+        for name in NAMES.into_iter().chain([SENDER]) {
             let program = image(name).unwrap();
             let mut memory = program.memory();
             let (_, mut plain) = Plain::start(program.r, program.flags, program.entry, &memory);

@@ -211,6 +211,11 @@ impl<M: Machine> Pair<M> {
         &self.expected_memory[..self.length]
     }
 
+    /// The first so many bytes of the product's memory, those beyond it too.
+    pub fn lent(&self, lent: usize) -> &[u8] {
+        &self.product_memory[..lent]
+    }
+
     fn wanted(&self) -> M::Array {
         match &self.expected {
             Some(machine) => machine.array(),
@@ -229,7 +234,7 @@ impl<M: Machine> Pair<M> {
     }
 
     /// One call of each, whichever it is.
-    fn call(
+    pub(crate) fn call(
         &mut self,
         lent: usize,
         product: impl FnOnce(&mut M::Array, &mut [u8]) -> (u32, u64),

@@ -42,7 +42,7 @@ pub fn one(comparison: &mut Comparison, number: u64) {
     comparison.check_call(checked, &place, &program);
 }
 
-fn draw(random: &mut Random) -> Program {
+pub fn draw(random: &mut Random) -> Program {
     if random.chance(1, 5) {
         return dense::image(random);
     }

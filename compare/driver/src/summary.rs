@@ -5,6 +5,7 @@ use crate::comparison::{Comparison, Place};
 use crate::counts::{Counts, Machines, Settles, Words, Writes, LONG};
 use crate::figures::grouped;
 use crate::hex_summary;
+use crate::rate_summary;
 
 /// What the answers mean, of all calls together.
 const ANSWERS: [(usize, &str); 14] = [
@@ -30,6 +31,9 @@ pub fn show(comparison: &Comparison) -> String {
     let mut sections = vec![format!("What compare/run {asked} compared.")];
     if counts.core.starts > 0 {
         sections.extend(of_machines(counts));
+    }
+    if counts.rates.runs > 0 {
+        sections.push(rate_summary::show(&counts.rates));
     }
     if counts.hex.texts() > 0 {
         sections.push(hex_summary::show(&counts.hex));

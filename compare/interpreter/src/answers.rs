@@ -1,4 +1,5 @@
-//! The paper's numbers: what start, run and the reader of HEX answer, and what a record's stop holds.
+//! The paper's numbers: what start, the runs and the reader of HEX answer, and what a record's stop
+//! holds.
 
 /// The budget is spent, or the start is accepted.
 pub const FINE: u32 = 0;
@@ -21,6 +22,8 @@ pub const FETCHED: u32 = 25;
 pub const UNSOUND: u32 = 41;
 pub const BEYOND: u32 = 42;
 pub const NO_END: u32 = 43;
+
+pub const BAD_WINDOW: u32 = 58;
 
 /// The most that one run may be asked to do, in cycles or in instructions.
 pub const MOST_BUDGET: u64 = 1_000_000;

@@ -1,4 +1,4 @@
-//! The paper's table of durations, for checks of the pipeline. Neither machine uses it.
+//! The paper's tables of durations and ticks, for checks of the pipeline. Neither machine uses them.
 
 use crate::arm::{decode, passes, Instruction, Operand};
 
@@ -33,9 +33,48 @@ pub fn duration(word: u32, flags: u32, r: &[u32; 15]) -> u64 {
     }
 }
 
+/// Its ticks by request 3's table, as numbers: two for each N, one for each S and I.
+pub fn ticks(word: u32, flags: u32, r: &[u32; 15]) -> u64 {
+    if !passes(word >> 28, flags) {
+        return 1;
+    }
+    match decode(word) {
+        Instruction::Processing(it) => {
+            let own = if matches!(it.operand, Operand::ByRegister { .. }) {
+                2
+            } else {
+                1
+            };
+            own + refill_ticks(it.rd == 15 && !it.only_compares())
+        }
+        Instruction::Single(it) if it.load => 4 + refill_ticks(it.rd == 15),
+        Instruction::Single(_) => 4,
+        Instruction::Block(it) => {
+            let n = u64::from(it.list.count_ones());
+            if it.load {
+                n + 3 + refill_ticks(it.list >> 15 == 1)
+            } else {
+                n + 3
+            }
+        }
+        Instruction::Branch(_) => 1 + refill_ticks(true),
+        Instruction::Multiply(it) => 1 + m(r[it.rs]),
+        Instruction::Other => panic!("an Other word has no ticks"),
+    }
+}
+
 fn refills(stored: bool) -> u64 {
     if stored {
         2
+    } else {
+        0
+    }
+}
+
+/// S + N.
+fn refill_ticks(stored: bool) -> u64 {
+    if stored {
+        3
     } else {
         0
     }

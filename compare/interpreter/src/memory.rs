@@ -53,3 +53,20 @@ pub fn store(memory: &mut [u8], address: u32, value: u32, byte: bool) {
         set_word(memory, address, value);
     }
 }
+
+/// A memory as the core has it: it reads the bytes as they are, and whoever lends them may watch what
+/// it writes.
+pub trait Lent {
+    fn bytes(&self) -> &[u8];
+    fn store(&mut self, address: u32, value: u32, byte: bool);
+}
+
+impl Lent for [u8] {
+    fn bytes(&self) -> &[u8] {
+        self
+    }
+
+    fn store(&mut self, address: u32, value: u32, byte: bool) {
+        store(self, address, value, byte);
+    }
+}

@@ -1,5 +1,6 @@
 //! The core: a cycle at a time, with fetch registers and latches. The product's core is timed
-//! against it: the parts of a cycle, called from one place each, end up in one loop.
+//! against it: the parts of a cycle, called from one place each, end up in one loop. Those that take
+//! the memory are there once for each kind of it; others that would be left out have an attribute.
 
 use crate::answers::*;
 use crate::arm::{
@@ -7,7 +8,7 @@ use crate::arm::{
     decode_multiply, forbidden, passes, product, r15_word, shift_by_amount, shift_by_register,
     Block, Branch, Instruction, Multiply, Offset, Operand, Processing, Shifted, Single, C,
 };
-use crate::memory;
+use crate::memory::{self, Lent};
 use crate::sums::{alone, before_refills, loading, storing, Sums, REFILLS};
 
 /// What the next cycle does.
@@ -94,7 +95,7 @@ impl Core {
         (self.stop, used, self)
     }
 
-    fn run_refusal(&self, memory: &[u8], budget: u64) -> u32 {
+    pub(crate) fn run_refusal(&self, memory: &[u8], budget: u64) -> u32 {
         if memory.len() as u64 != u64::from(self.length) {
             OTHER_MEMORY
         } else if self.is_bad() {
@@ -178,7 +179,7 @@ impl Core {
     }
 
     /// Does so many cycles, fewer where a stop is found and set: how many.
-    fn do_cycles(&mut self, memory: &mut [u8], budget: u64) -> u64 {
+    fn do_cycles<M: Lent + ?Sized>(&mut self, memory: &mut M, budget: u64) -> u64 {
         for done in 0..budget {
             if let Err(stop) = self.advance(memory) {
                 self.stop = stop;
@@ -188,8 +189,8 @@ impl Core {
         budget
     }
 
-    /// Does one cycle, or gives the stop and changes nothing.
-    fn advance(&mut self, memory: &mut [u8]) -> Result<(), u32> {
+    /// Does one cycle, or gives the stop and changes nothing. The core is a good one without a stop.
+    pub(crate) fn advance<M: Lent + ?Sized>(&mut self, memory: &mut M) -> Result<(), u32> {
         match self.phase {
             Phase::Refill1 => self.refill_1(memory),
             Phase::Refill2 => self.refill_2(memory),
@@ -207,9 +208,9 @@ impl Core {
     }
 
     /// IR2 becomes IR1, IR1 the word at PC, PC+4.
-    fn fetch(&mut self, memory: &[u8]) {
+    fn fetch<M: Lent + ?Sized>(&mut self, memory: &M) {
         self.ir2 = self.ir1;
-        self.ir1 = memory::fetch_at_once(memory, self.pc);
+        self.ir1 = memory::fetch_at_once(memory.bytes(), self.pc);
         self.pc = counter(self.pc.wrapping_add(4));
     }
 
@@ -241,13 +242,13 @@ impl Core {
         self.leave(Phase::Refill1);
     }
 
-    fn refill_1(&mut self, memory: &[u8]) {
+    fn refill_1<M: Lent + ?Sized>(&mut self, memory: &M) {
         self.fetch(memory);
         self.leave(Phase::Refill2);
     }
 
     /// The start's refills have IX blank.
-    fn refill_2(&mut self, memory: &[u8]) {
+    fn refill_2<M: Lent + ?Sized>(&mut self, memory: &M) {
         self.fetch(memory);
         self.sums.add(REFILLS);
         if let Some(word) = self.ix {
@@ -268,7 +269,7 @@ impl Core {
 
     // Step 1, and the stop before it. PC is A+8 until the fetch.
 
-    fn step_1(&mut self, memory: &[u8]) -> Result<(), u32> {
+    fn step_1<M: Lent + ?Sized>(&mut self, memory: &M) -> Result<(), u32> {
         let word = self.ix.ok_or(NO_WORD)?;
         if !passes(word >> 28, self.flags) {
             self.fetch(memory);
@@ -290,7 +291,7 @@ impl Core {
     }
 
     /// A shift by register is all done in step 2.
-    fn process(&mut self, it: &Processing, memory: &[u8]) {
+    fn process<M: Lent + ?Sized>(&mut self, it: &Processing, memory: &M) {
         let r15 = self.pc;
         self.fetch(memory);
         let operand = match it.operand {
@@ -331,7 +332,7 @@ impl Core {
         }
     }
 
-    fn branch(&mut self, it: &Branch, memory: &[u8]) {
+    fn branch<M: Lent + ?Sized>(&mut self, it: &Branch, memory: &M) {
         let r15 = self.pc;
         self.fetch(memory);
         if it.link {
@@ -342,7 +343,7 @@ impl Core {
 
     /// A word that is no other class's: a multiply does nothing before its last step, which is the
     /// second or a later one.
-    fn begin_other(&mut self, word: u32, memory: &[u8]) -> Result<(), u32> {
+    fn begin_other<M: Lent + ?Sized>(&mut self, word: u32, memory: &M) -> Result<(), u32> {
         let it = decode_multiply(word).ok_or(OTHER)?;
         if it.is_forbidden() {
             return Err(FORBIDDEN);
@@ -352,7 +353,7 @@ impl Core {
         Ok(())
     }
 
-    fn begin_single(&mut self, it: &Single, memory: &[u8]) -> Result<(), u32> {
+    fn begin_single<M: Lent + ?Sized>(&mut self, it: &Single, memory: &M) -> Result<(), u32> {
         let (address, changed) = self.single_addresses(it);
         self.test_words(address & !3, 1, it.load)?;
         self.fetch(memory);
@@ -367,7 +368,7 @@ impl Core {
         Ok(())
     }
 
-    fn begin_block(&mut self, it: &Block, memory: &[u8]) -> Result<(), u32> {
+    fn begin_block<M: Lent + ?Sized>(&mut self, it: &Block, memory: &M) -> Result<(), u32> {
         let (lowest, changed) = self.block_addresses(it);
         self.test_words(lowest, it.list.count_ones(), it.load)?;
         self.fetch(memory);
@@ -398,6 +399,7 @@ impl Core {
     }
 
     /// Before step 1: a single's whole address and its changed base.
+    #[inline(always)]
     fn single_addresses(&self, it: &Single) -> (u32, u32) {
         let base = if it.rn == 15 { self.pc } else { self.r[it.rn] };
         let offset = match it.offset {
@@ -431,7 +433,7 @@ impl Core {
 
     // Steps 2 and later: PC is A+12.
 
-    fn later_step(&mut self, step: u32, memory: &mut [u8]) {
+    fn later_step<M: Lent + ?Sized>(&mut self, step: u32, memory: &mut M) {
         let word = self.ix.expect("IX holds a word in its own steps");
         if let Some(it) = decode_multiply(word) {
             return self.multiply_step(&it, step);
@@ -445,6 +447,7 @@ impl Core {
         }
     }
 
+    #[inline(always)]
     fn second_step(&mut self, it: &Processing) {
         let Operand::ByRegister { rm, shift, rs } = it.operand else {
             unreachable!("only a shift by register has a second step");
@@ -454,7 +457,7 @@ impl Core {
         self.operate(it, operand, self.pc, alone(1));
     }
 
-    fn single_step(&mut self, it: &Single, step: u32, memory: &mut [u8]) {
+    fn single_step<M: Lent + ?Sized>(&mut self, it: &Single, step: u32, memory: &mut M) {
         if step == 3 {
             return self.write_last(it.rd, self.data, loading(1));
         }
@@ -462,16 +465,16 @@ impl Core {
             self.r[it.rn] = self.base;
         }
         if it.load {
-            let value = memory::load(memory, self.address, it.byte);
+            let value = memory::load(memory.bytes(), self.address, it.byte);
             self.leave(Phase::Step(3));
             self.data = value;
         } else {
-            memory::store(memory, self.address, self.data, it.byte);
+            memory.store(self.address, self.data, it.byte);
             self.retire(storing(1));
         }
     }
 
-    fn block_load_step(&mut self, it: &Block, step: u32, memory: &[u8]) {
+    fn block_load_step<M: Lent + ?Sized>(&mut self, it: &Block, step: u32, memory: &M) {
         let n = it.list.count_ones();
         if step == n + 2 {
             return self.write_last(nth_name(it.list, n - 1), self.data, loading(n));
@@ -483,16 +486,16 @@ impl Core {
         }
         let address = self.address;
         self.leave(Phase::Step(step + 1));
-        self.data = memory::word(memory, address);
+        self.data = memory::word(memory.bytes(), address);
         if step < n + 1 {
             self.address = address.wrapping_add(4);
         }
     }
 
-    fn block_store_step(&mut self, it: &Block, step: u32, memory: &mut [u8]) {
+    fn block_store_step<M: Lent + ?Sized>(&mut self, it: &Block, step: u32, memory: &mut M) {
         let n = it.list.count_ones();
         let address = self.address;
-        memory::set_word(memory, address, self.data);
+        memory.store(address, self.data, false);
         if step == 2 && it.w {
             self.r[it.rn] = self.base;
         }
@@ -505,6 +508,7 @@ impl Core {
     }
 
     /// Rs stays as it is until the last step, so that it tells in each which one that is.
+    #[inline(always)]
     fn multiply_step(&mut self, it: &Multiply, step: u32) {
         let rs = self.r[it.rs];
         let m = cycles_by_rs(rs);

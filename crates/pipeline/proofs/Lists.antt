@@ -582,11 +582,11 @@ accepted-or-refused p n t d x (settling mem) = go (eqb (length mem) n) refl (dec
 
 module _ (g : List ℕ) (flags entry : ℕ) (mem : List ℕ) where
   -- what accepted starts hand back
-  start-hands : (start g flags entry mem).answer ≡ 0 → beginning g flags entry mem ≡ fresh g flags entry mem
+  pub start-hands : (start g flags entry mem).answer ≡ 0 → beginning g flags entry mem ≡ fresh g flags entry mem
   unfolding start fresh
   start-hands e = rw e
 
-  plain-hands : (start g flags entry mem).answer ≡ 0 → plain_beginning g flags entry mem ≡ plain_fresh g flags entry mem
+  pub plain-hands : (start g flags entry mem).answer ≡ 0 → plain_beginning g flags entry mem ≡ plain_fresh g flags entry mem
   unfolding start plain_calls.start plain_fresh
   plain-hands e = rw e
 

@@ -76,7 +76,7 @@ module _ (p : plain.Machine) (m₀ : Machine) (range : p.plain.a < counters) (sh
   ranged zero = range
   ranged (suc k) = step_range (trace p k) (ranged k)
 
-  shorted : (k : ℕ) → (trace p k).plain.board.size ≤ most_bytes
+  pub shorted : (k : ℕ) → (trace p k).plain.board.size ≤ most_bytes
   unfolding trace
   shorted zero = short
   shorted (suc k) = rw (step-board (trace p k)) (shorted k)

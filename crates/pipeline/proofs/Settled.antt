@@ -79,7 +79,7 @@ next-sound m s o = cycle-sound m s (no_stop m o)
 next-left : (m : Machine) {n : ℕ} → Sound m → cycles_left m ≡ suc n → cycles_left (cycle m) ≡ n
 next-left m s e = omega (arith, one_less m s (away m e))
 
-reach-first : (m : Machine) (n : ℕ) → reach (cycle m) n ≡ reach m (suc n)
+pub reach-first : (m : Machine) (n : ℕ) → reach (cycle m) n ≡ reach m (suc n)
 unfolding reach
 reach-first m zero = refl
 reach-first m (suc n) = ap cycle (reach-first m n)

@@ -141,7 +141,7 @@ module _ (g : List ℕ) (c : Control) (mem : List ℕ) (t : stands c mem ≡ tru
   in-range : ((is_step1 c.phase && clear c) ≡ true) × (sized c ≡ true)
   in-range = and-true (is_step1 c.phase && clear c) {b = sized c} ready.0
 
-  short : c.board.size ≤ most_bytes
+  pub short : c.board.size ≤ most_bytes
   short = leb-true _ _ (and-true (ltb c.pipe.pc counters) in-range.1).1
 
   standing : machine g c mem ≡ boundary (plainly (machine g c mem)) c.counts

@@ -22,7 +22,7 @@ pub record Left (budget : ℕ) (m₀ : Machine) (u : ℕ) (m : Machine) : Type 0
   pub timed : total m.control.counts.sums + 36 * left.rest ≤ 37 * most_cycles
 
 -- a cycle is counted, and retires at most one instruction
-one-cycle : (m : Machine) → (cycle m).control.counts.cycles ≡ suc m.control.counts.cycles
+pub one-cycle : (m : Machine) → (cycle m).control.counts.cycles ≡ suc m.control.counts.cycles
 unfolding cycle
 one-cycle m = refl
 
@@ -33,7 +33,7 @@ retires-one (Done Skipped) k = omega arith
 retires-one (Done (Executed m)) k = omega arith
 retires-one (Jump word) k = omega arith
 
-one-retired : (m : Machine) → (cycle m).control.counts.retired ≤ suc m.control.counts.retired
+pub one-retired : (m : Machine) → (cycle m).control.counts.retired ≤ suc m.control.counts.retired
 unfolding cycle
 one-retired m = retires-one (own_of m.control.phase m).step.after m.control.counts.retired
 

@@ -2,7 +2,7 @@
 #![tactic(auto)]
 
 pub mod left;
-mod quick;
+pub mod quick;
 pub mod run;
 
 use cycle::Control;

@@ -41,7 +41,7 @@ fn stands(c: Control, memory: &[u8]) -> bool
 }
 
 // Where whole instructions may begin and the longest fits.
-fn may_skip(c: Control, memory: &[u8], budget: u64) -> bool
+pub fn may_skip(c: Control, memory: &[u8], budget: u64) -> bool
     ensures { result ≡ (leb longest budget && stands c memory.now) }
 {
     LONGEST <= budget && stands(c, memory)
@@ -49,7 +49,7 @@ fn may_skip(c: Control, memory: &[u8], budget: u64) -> bool
 
 // The boundary core.
 #[tactic(auto, unfolding(crate::specs::Boundary::boundary))]
-fn control_at(c: Context, counts: Counts, memory: &[u8]) -> Control
+pub fn control_at(c: Context, counts: Counts, memory: &[u8]) -> Control
     ensures { (g : List ℕ) (stop : ℕ) → machine g result memory.now ≡ boundary (plain.machine (plain.plain g c.a c.flags stop c.board) memory.now) counts }
 {
     let word = fetch(memory, c.board, c.a);
@@ -72,7 +72,7 @@ fn control_at(c: Context, counts: Counts, memory: &[u8]) -> Control
 }
 
 // The counts after whole instructions: each has one access of its own, and what is no access is internal.
-fn counts_on(n: Counts, came: Came, w: Tally) -> Counts
+pub fn counts_on(n: Counts, came: Came, w: Tally) -> Counts
     requires { (n.cycles + came.used < 2 ^ 63) × (n.retired + came.done < 2 ^ 63) × (n.sums.n + came.used < 2 ^ 63) × (n.sums.s + came.used < 2 ^ 63) × (n.sums.i + came.used < 2 ^ 63) × (w.n ≤ came.done + w.extra) × (came.done + w.extra ≤ came.used) }
     ensures { result ≡ counts_on came.used came.done (told_by w came.done came.used) n }
 {

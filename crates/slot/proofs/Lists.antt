@@ -14,9 +14,9 @@ use Rattle.refusals.proofs.Phases.{early}
 use Rattle.pipeline.proofs.Lists.{term3}
 use Rattle.core_arrays.specs.CoreArray.{packed, unpacked}
 use Rattle.core_arrays.proofs.CoreLaws.{core-back, stands-packed}
-use Rattle.slot.specs.Calls.{Called, core_start, core_called, core_machine}
+use Rattle.array_calls.specs.Calls.{Called, core_start, core_called, core_machine}
 use Rattle.slot.specs.Lists.{core_call, core_reply, CoreCalls, no_core_calls, core_accepted, core_refused, CoreFollows, CoreLists}
-use Rattle.slot.proofs.Refusals.{core-packed}
+use Rattle.array_calls.proofs.Refusals.{core-packed}
 use Rattle.slot.proofs.Settling.{settle-packed}
 
 abbrev core_of : Machine → Core

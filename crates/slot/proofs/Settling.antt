@@ -13,9 +13,9 @@ use Rattle.pipeline.specs.declared.Core.{Core}
 use Rattle.pipeline.specs.Calls as pipeline
 use Rattle.pipeline.proofs.Settled.{same-refusal, settle-laws}
 use Rattle.core_arrays.specs.CoreArray as core_array
-use Rattle.slot.specs.Calls.{Called, refused, unless_refused, core_called, core_machine, refusal_of, core_run, core_settle}
-use Rattle.slot.specs.Refusals.{SettleRefusals}
-use Rattle.slot.proofs.Refusals.{core-refusals, core-packed}
+use Rattle.array_calls.specs.Calls.{Called, refused, unless_refused, core_called, core_machine, refusal_of, core_run, core_settle}
+use Rattle.array_calls.specs.Refusals.{SettleRefusals}
+use Rattle.array_calls.proofs.Refusals.{core-refusals, core-packed}
 
 module _ (words mem : List ℕ) where
   abbrev settling : pipelined.Machine

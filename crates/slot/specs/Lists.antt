@@ -6,7 +6,7 @@ use Rattle.cycle.specs.Machine.{Machine}
 use Rattle.pipeline.specs.Calls.{core}
 use Rattle.pipeline.specs.Term3.{fresh, plain_fresh, Call, running, settling, lent_to, call, Reply, reply, Accepted, Refused, Calls, Follows}
 use Rattle.core_arrays.specs.CoreArray.{packed}
-use Rattle.slot.specs.Calls.{Called, core_start, core_called, core_run, core_settle}
+use Rattle.array_calls.specs.Calls.{Called, core_start, core_called, core_run, core_settle}
 
 abbrev pub core_call : Call → List ℕ → Called
 core_call (running mem budget) words = core_run words mem budget

@@ -1,16 +1,16 @@
 // The core's calls.
 ghost use Rattle.std.specs.Prelude.{◌≡◌};
-ghost use Rattle.slot.specs.Calls.{started, called, core_start, core_run, core_settle};
+ghost use Rattle.array_calls.specs.Calls.{started, called, core_start, core_run, core_settle};
 
-use crate::kept::{begin, end};
-use crate::refusal::refusal_of;
+use array_calls::kept::{begin, end};
+use array_calls::refusal::refusal_of;
 use core_arrays::CoreArray;
 use core_arrays::unpacking::unpacked;
 use pipeline::Core;
 use runs::left::cycles_left;
 
 // A refused start leaves the zeroed core.
-#[tactic(auto, unfolding(crate::specs::Calls::core_start))]
+#[tactic(auto, unfolding(array_calls::specs::Calls::core_start))]
 #[unsafe(no_mangle)]
 pub extern "C" fn slot_core_start(
     core: &mut CoreArray,

@@ -4,7 +4,6 @@
 mod abi;
 mod core_calls;
 mod hex_calls;
-mod kept;
 mod plain_calls;
 mod record_calls;
-mod refusal;
+mod store_calls;

@@ -1,12 +1,12 @@
 // The plain machine's calls.
 ghost use Rattle.std.specs.Prelude.{◌≡◌};
-ghost use Rattle.slot.specs.Calls.{started, called, plain_start, plain_run};
+ghost use Rattle.array_calls.specs.Calls.{started, called, plain_start, plain_run};
 
-use crate::kept::{begin, end};
+use array_calls::kept::{begin, end};
 use plain::Plain;
 use plain_arrays::{PlainArray, unpacked};
 
-#[tactic(auto, unfolding(crate::specs::Calls::plain_start))]
+#[tactic(auto, unfolding(array_calls::specs::Calls::plain_start))]
 #[unsafe(no_mangle)]
 pub extern "C" fn slot_plain_start(
     plain: &mut PlainArray,

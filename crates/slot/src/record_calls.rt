@@ -2,7 +2,7 @@
 ghost use Rattle.std.specs.Prelude.{◌≡◌};
 ghost use Rattle.word.specs.Reader.{read_of};
 ghost use Rattle.record_arrays.specs.RecordArray.{record_words};
-ghost use Rattle.slot.specs.Calls.{answer, word_of};
+ghost use Rattle.array_calls.specs.Calls.{answer, word_of};
 
 use record_arrays::RecordArray;
 use record_arrays::packing::record_words;

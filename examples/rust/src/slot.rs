@@ -2,28 +2,18 @@
 //! declarations to the source.
 
 pub const CORE_PC: usize = 15;
-pub const CORE_IX: usize = 21;
-pub const CORE_PHASE: usize = 23;
-pub const CORE_ADDRESS: usize = 24;
 pub const CORE_DATUM: usize = 25;
 pub const CORE_RETIRED: usize = 29;
 pub const CORE_SUM_N: usize = 33;
 pub const CORE_SUM_S: usize = 35;
 pub const CORE_SUM_I: usize = 37;
 pub const CORE_WORDS: usize = 39;
-pub const PHASE_STEP2: u32 = 3;
-pub const RECORD_CLASS: usize = 0;
-pub const RECORD_B: usize = 5;
-pub const RECORD_L: usize = 7;
-pub const RECORD_WORDS: usize = 16;
-pub const CLASS_SINGLE: u32 = 1;
-pub const CLASS_BLOCK: u32 = 2;
 
 extern "C" {
     fn slot_abi_2() -> u32;
     fn slot_core_start(core: *mut u32, registers: *const u32, flags: u32, entry: u32, memory: *const u8, length: usize) -> u32;
     fn slot_core_run(core: *mut u32, memory: *mut u8, length: usize, budget: u64, used: *mut u64) -> u32;
-    fn slot_word_read(word: u32, record: *mut u32);
+    fn slot_core_store(core: *const u32, address: *mut u32) -> u32;
 }
 
 pub struct Core {
@@ -62,19 +52,16 @@ impl Core {
         (answer, used)
     }
 
-    /// By the header's way.
+    /// What the coming cycle stores, if it does.
     pub fn coming_store(&self) -> Option<Store> {
-        if self.words[CORE_PHASE] < PHASE_STEP2 {
-            return None;
-        }
-        let mut record = [0; RECORD_WORDS];
+        let mut address = 0;
         // SAFETY: as above.
-        unsafe { slot_word_read(self.words[CORE_IX], record.as_mut_ptr()) };
-        let (address, datum) = (self.words[CORE_ADDRESS], self.words[CORE_DATUM]);
-        match (record[RECORD_CLASS], record[RECORD_L], record[RECORD_B]) {
-            (CLASS_SINGLE, 0, 1) => Some(Store { address, bytes: 1, datum: datum % 256 }),
-            (CLASS_SINGLE | CLASS_BLOCK, 0, _) => Some(Store { address: address - address % 4, bytes: 4, datum }),
-            _ => None,
+        let bytes = unsafe { slot_core_store(self.words.as_ptr(), &mut address) };
+        let datum = self.words[CORE_DATUM];
+        match bytes {
+            0 => None,
+            1 => Some(Store { address, bytes, datum: datum % 256 }),
+            _ => Some(Store { address, bytes, datum }),
         }
     }
 

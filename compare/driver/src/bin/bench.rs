@@ -7,10 +7,13 @@
 //! bench settles IMAGE CALLS              so many of these, and a settle after each, for the same
 //! bench hex                              the table of Intel HEX alone
 //! bench hex READS [interpreter]          so many readings of an Intel HEX text, for the same
+//! bench rate                             the table of watched runs alone
+//! bench rate IMAGE CYCLES                one watched run of the product, for the same
 
 use driver::archive::{core_run, core_settle, core_start, plain_run, plain_start, CoreArray};
 use driver::hex_times::{self, Reader};
 use driver::images;
+use driver::rate_times;
 use driver::records::core_of;
 use interpreter::durations::duration;
 use interpreter::memory::{set_word, word};
@@ -206,6 +209,8 @@ fn tables() {
     println!();
     after_writes();
     println!();
+    rate_times::table(ROUNDS);
+    println!();
     hex_times::table(ROUNDS);
 }
 
@@ -353,6 +358,20 @@ fn counted_hex(reader: Reader, reads: &str) -> ExitCode {
     ExitCode::SUCCESS
 }
 
+/// One watched run, likewise.
+fn counted_rate(name: &str, cycles: &str) -> ExitCode {
+    let stores = cycles
+        .parse()
+        .ok()
+        .and_then(|cycles| rate_times::counted(name, cycles));
+    let Some(stores) = stores else {
+        eprintln!("images: {} {}", images::NAMES.join(" "), images::SENDER);
+        return ExitCode::from(2);
+    };
+    println!("stores {stores}");
+    ExitCode::SUCCESS
+}
+
 fn main() -> ExitCode {
     let arguments: Vec<String> = std::env::args().skip(1).collect();
     let words: Vec<&str> = arguments.iter().map(String::as_str).collect();
@@ -372,10 +391,12 @@ fn main() -> ExitCode {
         ["hex"] => hex_times::table(ROUNDS),
         ["hex", reads] => return counted_hex(hex_times::product, reads),
         ["hex", reads, "interpreter"] => return counted_hex(hex_times::interpreter, reads),
+        ["rate"] => rate_times::table(ROUNDS),
+        ["rate", name, cycles] => return counted_rate(name, cycles),
         _ => {
             eprintln!(
                 "usage: bench [long | once IMAGE CYCLES [interpreter] | steps IMAGE CALLS \
-                 | settles IMAGE CALLS | hex [READS [interpreter]]]"
+                 | settles IMAGE CALLS | hex [READS [interpreter]] | rate [IMAGE CYCLES]]"
             );
             return ExitCode::from(2);
         }

@@ -4,8 +4,8 @@
 use driver::arguments::Asked;
 use driver::comparison::Comparison;
 use driver::{
-    directed, hex, multiplies, random_images, refills, rewritten, settles, starts, summary, sums,
-    words,
+    directed, hex, multiplies, random_images, rates, refills, rewritten, settles, starts, summary,
+    sums, words,
 };
 use interpreter::pipeline::Core;
 use interpreter::plain::Plain;
@@ -13,7 +13,7 @@ use std::process::ExitCode;
 
 type Part = fn(&mut Comparison, u64);
 
-const PARTS: [Part; 11] = [
+const PARTS: [Part; 12] = [
     |comparison, _| starts::all::<Core>(comparison),
     |comparison, _| starts::all::<Plain>(comparison),
     |comparison, _| directed::all(comparison),
@@ -23,6 +23,7 @@ const PARTS: [Part; 11] = [
     refills::all,
     random_images::all,
     rewritten::all,
+    rates::all,
     words::all,
     hex::all,
 ];
@@ -68,6 +69,10 @@ fn compare(asked: Asked) -> Comparison {
         Asked::Hex(number) => {
             println!("random Intel HEX file {number} alone");
             hex::one(&mut comparison, number);
+        }
+        Asked::Rates(number) => {
+            println!("random image {number} alone, watched for its stores");
+            rates::one(&mut comparison, number);
         }
     }
     comparison

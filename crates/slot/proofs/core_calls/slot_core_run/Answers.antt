@@ -1,6 +1,6 @@
 use Rattle.std.proofs.Common.{refl, ◌∙◌}
 use Rattle.plain.proofs.Told.{some_number}
-use Rattle.slot.proofs.Calling.{array-refused, core-ended}
+use Rattle.array_calls.proofs.Calling.{array-refused, core-ended}
 use Rattle.slot.proofs.core_calls.slot_core_run.Goals as goal
 
 pub returns-in-Err : goal.returns-in-Err

@@ -1,5 +1,5 @@
 use Rattle.std.proofs.Common.{◌∙◌}
-use Rattle.slot.proofs.Calling.{plain-ended}
+use Rattle.array_calls.proofs.Calling.{plain-ended}
 use Rattle.slot.proofs.plain_calls.slot_plain_run.Goals as goal
 
 pub returns : goal.returns

@@ -1,5 +1,5 @@
 use mathlib.Core.Path.{sym, ◌∙◌}
-use Rattle.slot.proofs.Calling.{no_word_there, its-word}
+use Rattle.array_calls.proofs.Calling.{no_word_there, its-word}
 use Rattle.slot.proofs.record_calls.slot_word_write.Goals as goal
 
 pub returns-then-not-stands_for_record : goal.returns-then-not-stands_for_record

@@ -1,0 +1,4 @@
+pub mod Refusing
+pub mod Refused
+pub mod Calling
+pub mod Refusals

@@ -1,0 +1,9 @@
+pub mod Window
+pub mod Summary
+pub mod Gaps
+pub mod Rate
+pub mod Buffer
+pub mod Fold
+pub mod Spans
+pub mod Verdicts
+pub mod Marked

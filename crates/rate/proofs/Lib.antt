@@ -1,0 +1,13 @@
+pub mod Pieces
+pub mod Room
+pub mod Lists
+pub mod Turns
+pub mod Joined
+pub mod Handed
+pub mod Parts
+pub mod Blank
+pub mod Allowed
+pub mod Whole
+pub mod Marked
+pub mod Sample
+pub mod Least

@@ -1,0 +1,3 @@
+pub mod RateRefusing
+pub mod RateCalling
+pub mod RateRuns

@@ -1,0 +1,6 @@
+pub mod Pending
+pub mod First
+pub mod Flights
+pub mod Agree
+pub mod Laws
+pub mod Marked

@@ -1,0 +1,5 @@
+pub mod Writes
+pub mod Coming
+pub mod Planned
+pub mod Agree
+pub mod Marked

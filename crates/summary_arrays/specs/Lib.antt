@@ -1,0 +1,3 @@
+pub mod SummaryArray
+pub mod Laws
+pub mod Places

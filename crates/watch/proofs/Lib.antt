@@ -1,0 +1,7 @@
+pub mod Telling
+pub mod Bursts
+pub mod Wholes
+pub mod Skips
+pub mod Watching
+pub mod Pieces
+pub mod Calling

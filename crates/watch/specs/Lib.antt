@@ -1,0 +1,4 @@
+pub mod Told
+pub mod Quick
+pub mod Rated
+pub mod Refused
