@@ -1,7 +1,7 @@
 // A core as an array of words that a caller of C owns, and back.
 #![tactic(auto)]
 
-mod counts;
+pub mod counts;
 mod fetched;
 pub mod packing;
 mod phases;

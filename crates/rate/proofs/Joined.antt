@@ -2,16 +2,14 @@
 use Rattle.std.proofs.Common.{◌≡◌, ℕ, zero, suc, ◌+◌, ◌≤◌, refl, sym, ap, ◌∙◌, arith, zero-add}
 use Rattle.plain.specs.Running.{ran, one_more, more_by, Engine, runs}
 use Rattle.plain.proofs.Running.{found}
-use Rattle.steps.specs.declared.Ended.TheVariants.{Start, Skipped, Executed}
-use Rattle.steps.specs.declared.After.{After}
-use Rattle.steps.specs.declared.After.TheVariants.{More, Done, Jump}
 use Rattle.cycle.specs.Machine.{Machine}
-use Rattle.cycle.specs.Cycle.{own_of, retired_by, cycle}
+use Rattle.cycle.specs.Cycle.{cycle}
 use Rattle.cycle.specs.StopFound.{stop_found}
 use Rattle.cycle.proofs.SumsRise.{sums-rise}
 use Rattle.cycle.specs.declared.Control.{Control}
 use Rattle.rate.specs.Folds.{Counted}
 use Rattle.runs.specs.Run.{engine, run_from}
+use Rattle.runs.proofs.RunLoop.{one-cycle, one-retired}
 
 module _ {M : Type 0} (e : Engine M) where
   -- a part that spent its cycles
@@ -56,21 +54,6 @@ module _ {M : Type 0} (e : Engine M) where
       go (suc q) i h = refl
 
 -- ---- what is counted
-
-retires-one : (e : After) (k : ℕ) → retired_by e k ≤ suc k
-retires-one (More ph) k = omega arith
-retires-one (Done Start) k = omega arith
-retires-one (Done Skipped) k = omega arith
-retires-one (Done (Executed m)) k = omega arith
-retires-one (Jump word) k = omega arith
-
-one-cycle : (m : Machine) → (cycle m).control.counts.cycles ≡ suc m.control.counts.cycles
-unfolding cycle
-one-cycle m = refl
-
-one-retired : (m : Machine) → (cycle m).control.counts.retired ≤ suc m.control.counts.retired
-unfolding cycle
-one-retired m = retires-one (own_of m.control.phase m).step.after m.control.counts.retired
 
 counted-cycle : {t : ℕ} (m : Machine) → Counted t m.control → Counted (suc t) (cycle m).control
 counted-cycle m c = record {

@@ -28,7 +28,7 @@ use Rattle.runs.specs.Run.{reach}
 use Rattle.runs.specs.Boundary.{boundary}
 use Rattle.pipeline.specs.Calls.{start}
 use Rattle.pipeline.specs.Term3.{sums, sums_there, fresh}
-use Rattle.pipeline.proofs.Position.{beginning, plain_beginning, started, sums-step}
+use Rattle.pipeline.proofs.Position.{beginning, plain_beginning, started, sums-step, ranged, shorted}
 use Rattle.pipeline.proofs.Lists.{start-hands, plain-hands, term3}
 use Rattle.link.specs.declared.Store.{Store}
 use Rattle.stores.specs.Writes.{burst, writes}
@@ -36,7 +36,7 @@ use Rattle.stores.specs.Coming.{coming, told_bytes, stored_by, stored}
 use Rattle.stores.specs.Planned.{writes_due, writes_at, stores_of, planned}
 use Rattle.stores.specs.Agree.{up_to, StoresAgree}
 use Rattle.stores.proofs.Pending.{pending, pending_in}
-use Rattle.stores.proofs.Flights.{along, flight-ends, reach-add, stored-add, counts_past, past, stored-past, partly, ranged, shorted}
+use Rattle.stores.proofs.Flights.{along, flight-ends, reach-add, stored-add, counts_past, past, stored-past, partly}
 
 -- ---- when stores come
 
@@ -190,7 +190,7 @@ module _ (g : List ℕ) (flags entry : ℕ) (mem : List ℕ) (range : entry < co
       let there = at-sum k before in
       let is : stored m₀ t ≡ planned p k ++ stored b (suc i) =
       stored-add m₀ (sums p k) (suc i) ∙ ap (λ (x : Machine). stored m₀ (sums p k) ++ stored x (suc i)) there ∙ ap (λ (xs : List Store). xs ++ stored b (suc i)) (stored-at-sum k before) in
-      let parts = partly q n (ranged p n range short k) (shorted p n range short k) (d k (omega arith)) i h in
+      let parts = partly q n (ranged p (boundary p n) range short k) (shorted p (boundary p n) range short k) (d k (omega arith)) i h in
       let old : up_to t (planned p k) ≡ planned p k =
       up-to-all t (planned p k) (subst (AtMost t) (stored-at-sum k before)
       (at-most-later (m₀.control.counts.cycles + sums p k) t (stored m₀ (sums p k)) (omega arith) (stored-by-then m₀ (sums p k)))) in

@@ -18,8 +18,9 @@ use Rattle.cycle.specs.Cycle.{cycle}
 use Rattle.runs.specs.Run.{reach}
 use Rattle.runs.specs.Boundary.{boundary}
 use Rattle.runs.proofs.Flight.{Flight, climb, climb-add, retiring}
-use Rattle.runs.proofs.PlainSteps.{flight, duration-flight, instruction, step_range, step-board}
+use Rattle.runs.proofs.PlainSteps.{flight, duration-flight, instruction}
 use Rattle.pipeline.proofs.Settled.{reach-first}
+use Rattle.pipeline.proofs.Position.{ranged, shorted}
 use Rattle.link.specs.declared.Store.{Store}
 use Rattle.stores.specs.Coming.{stored_by, stored}
 use Rattle.stores.specs.Planned.{writes_at, stores_of}
@@ -129,16 +130,6 @@ abbrev pub counts_past : plain.Machine → Counts → ℕ → Counts
 counts_past p n k = counts (n.cycles + durations p k) (n.retired + k) (plus n.sums (added p k))
 
 module _ (p : plain.Machine) (n : Counts) (range : p.plain.a < counters) (short : p.plain.board.size ≤ most_bytes) where
-  pub ranged : (k : ℕ) → (trace p k).plain.a < counters
-  unfolding trace
-  ranged zero = range
-  ranged (suc k) = step_range (trace p k) (ranged k)
-
-  pub shorted : (k : ℕ) → (trace p k).plain.board.size ≤ most_bytes
-  unfolding trace
-  shorted zero = short
-  shorted (suc k) = rw (step-board (trace p k)) (shorted k)
-
   pub past : (k : ℕ) → Does p k → reach (boundary p n) (durations p k) ≡ boundary (trace p k) (counts_past p n k)
   unfolding durations trace added
   past zero does = unfold reach in ap (boundary p) (counts-none n)
@@ -147,7 +138,7 @@ module _ (p : plain.Machine) (n : Counts) (range : p.plain.a < counters) (short 
       let b = boundary (trace p k) (counts_past p n k) in
       reach-add (boundary p n) (durations p k) (duration (trace p k))
       ∙ ap (λ (x : Machine). reach x (duration (trace p k))) (past k (λ j h. does j (omega arith)))
-      ∙ next-boundary (trace p k) (counts_past p n k) (ranged k) (shorted k) q
+      ∙ next-boundary (trace p k) (counts_past p n k) (ranged p (boundary p n) range short k) (shorted p (boundary p n) range short k) q
       ∙ ap (boundary (plain.step (trace p k))) (counts-more n (durations p k) k (duration (trace p k)) (added p k) (adds (trace p k)))
 
   pub stored-past : (k : ℕ) → Does p k → stored (boundary p n) (durations p k) ≡ stores_of n.cycles n.sums p k
@@ -159,4 +150,4 @@ module _ (p : plain.Machine) (n : Counts) (range : p.plain.a < counters) (short 
       stored-add (boundary p n) (durations p k) (duration (trace p k))
       ∙ ap (λ (x : Machine). stored (boundary p n) (durations p k) ++ stored x (duration (trace p k))) (past k before)
       ∙ ap (λ (xs : List Store). xs ++ stored (boundary (trace p k) (counts_past p n k)) (duration (trace p k))) (stored-past k before)
-      ∙ ap (λ (xs : List Store). stores_of n.cycles n.sums p k ++ xs) (wholly (trace p k) (counts_past p n k) (ranged k) (shorted k) q)
+      ∙ ap (λ (xs : List Store). stores_of n.cycles n.sums p k ++ xs) (wholly (trace p k) (counts_past p n k) (ranged p (boundary p n) range short k) (shorted p (boundary p n) range short k) q)

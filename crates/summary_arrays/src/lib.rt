@@ -1,7 +1,6 @@
 // A summary of stores as an array of words that a caller of C owns, and back.
 #![tactic(auto)]
 
-mod counts;
 pub mod packing;
 pub mod unpacking;
 

@@ -3,7 +3,7 @@ ghost use Rattle.std.specs.Prelude.{◌≡◌};
 ghost use Rattle.summary_arrays.specs.SummaryArray.{times_words, packed};
 
 use crate::SummaryArray;
-use crate::counts::count_words;
+use core_arrays::counts::count_words;
 use link::{Summary, Times};
 
 fn times_words(t: Times) -> [u32; 8]

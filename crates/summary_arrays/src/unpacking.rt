@@ -3,7 +3,7 @@ ghost use Rattle.std.specs.Prelude.{◌≡◌};
 ghost use Rattle.summary_arrays.specs.SummaryArray.{unpacked};
 
 use crate::SummaryArray;
-use crate::counts::joined;
+use core_arrays::counts::joined;
 use link::{Summary, Times};
 
 #[tactic(auto, unfolding(crate::specs::SummaryArray::unpacked))]

@@ -31,7 +31,8 @@ use Rattle.link.specs.declared.Window.{Window}
 use Rattle.link.specs.Window.{store, handed}
 use Rattle.stores.specs.Coming.{told_bytes, coming, steps_done, stored_by, stored}
 use Rattle.stores.specs.Planned.{stores_of}
-use Rattle.stores.proofs.Flights.{counts-none, counts-more, counts_past, past, stored-past, ranged, shorted}
+use Rattle.pipeline.proofs.Position.{ranged, shorted}
+use Rattle.stores.proofs.Flights.{counts-none, counts-more, counts_past, past, stored-past}
 use Rattle.stores.specs.declared.Write.{Write}
 use Rattle.watch.specs.Told.{Tells}
 use Rattle.watch.specs.Quick.{Goes}
@@ -56,7 +57,7 @@ module _ (p : plain.Machine) (n : Counts) (range : p.plain.a < counters) (short 
       let one : n.retired + k + 1 ≡ suc (n.retired + k) = omega arith in
       ap (λ x. run_from x (boundary p n)) sum
       ∙ run-past k (e + b) (λ j h. does j (omega arith))
-      ∙ ap (more_by d) (whole (trace p k) (counts_past p n k) b (ranged p n range short k) (shorted p n range short k) (does k (omega arith)))
+      ∙ ap (more_by d) (whole (trace p k) (counts_past p n k) b (ranged p (boundary p n) range short k) (shorted p (boundary p n) range short k) (does k (omega arith)))
       ∙ ap (λ (x : Counts). more_by d (more_by e (run_from b (boundary (plain.step (trace p k)) x))))
       (ap (λ r. counts (n.cycles + d + e) r (plus (plus n.sums (added p k)) (adds (trace p k)))) one ∙ counts-more n d k e (added p k) (adds (trace p k)))
       ∙ ap (λ u. ran last.answer u last.machine) used
