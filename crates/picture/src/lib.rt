@@ -1,5 +1,6 @@
 // The picture of a run, as SVG. It is given the stores one after another, in a memory that does not grow with them, and writes the drawing at
-// the end. Knows no machine. A drawing claims nothing, so no clause speaks of it: sums saturate, and what it cannot place it leaves out.
+// the end. Knows no machine. Of a drawing its scale is claimed, where a number lies and how long ticks are, and nothing else: sums saturate, and
+// what it cannot place it leaves out.
 #![tactic(auto)]
 
 mod beginning;

@@ -1,4 +1,7 @@
 // A panel: a frame, its axes, and where in it a number lies. Lengths are tenths of a pixel.
+ghost use Rattle.std.specs.Prelude.{◌≡◌};
+ghost use Rattle.picture.specs.Scale.{bottom, x, y};
+
 use crate::drawing::Drawing;
 use crate::round::{step, up};
 use crate::span::Span;
@@ -18,7 +21,9 @@ pub struct Panel {
 }
 
 impl Panel {
-    pub fn bottom(&self) -> u64 {
+    pub fn bottom(&self) -> u64
+        ensures { result ≡ bottom self.now }
+    {
         self.top.saturating_add(self.height)
     }
 
@@ -26,12 +31,16 @@ impl Panel {
         self.left.saturating_add(self.width)
     }
 
-    pub fn x(&self, value: u64) -> u64 {
+    pub fn x(&self, value: u64) -> u64
+        ensures { result ≡ x self.now value }
+    {
         self.left
             .saturating_add(self.across.part(value, self.width))
     }
 
-    pub fn y(&self, value: u64) -> u64 {
+    pub fn y(&self, value: u64) -> u64
+        ensures { result ≡ y self.now value }
+    {
         self.bottom()
             .saturating_sub(self.up.part(value, self.height))
     }

@@ -1,13 +1,20 @@
 // Ticks as seconds, by the clock.
+ghost use Rattle.std.specs.Prelude.{◌≡◌};
+ghost use Rattle.picture.specs.Scale.{nanoseconds, ticks};
+
 use crate::drawing::Drawing;
 
 const SECOND: u64 = 1_000_000_000;
 
-pub fn nanoseconds(ticks: u64, clock: u64) -> u64 {
+pub fn nanoseconds(ticks: u64, clock: u64) -> u64
+    ensures { result ≡ nanoseconds ticks clock }
+{
     ticks.saturating_mul(SECOND) / clock.max(1)
 }
 
-pub fn ticks(nanoseconds: u64, clock: u64) -> u64 {
+pub fn ticks(nanoseconds: u64, clock: u64) -> u64
+    ensures { result ≡ ticks nanoseconds clock }
+{
     nanoseconds.saturating_mul(clock) / SECOND
 }
 
