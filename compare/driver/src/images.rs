@@ -28,7 +28,7 @@ pub const TAPS: [i32; 16] = [
     78, -30, -390, -817, -273, 2259, 6231, 9326, 9326, 6231, 2259, -273, -817, -390, -30, 78,
 ];
 
-pub const NAMES: [&str; 5] = ["alu", "transfers", "crc", "mix", "fir"];
+pub const NAMES: [&str; 6] = ["alu", "transfers", "crc", "mix", "fir", "blocks"];
 
 /// One more, whose stores are watched: it hands frames to a link buffer, the last but three words.
 pub const SENDER: &str = "frames";
@@ -41,6 +41,7 @@ pub fn image(name: &str) -> Option<Program> {
         "crc" => Some(crc()),
         "mix" => Some(mix()),
         "fir" => Some(fir()),
+        "blocks" => Some(blocks()),
         SENDER => Some(frames()),
         _ => None,
     }
@@ -244,6 +245,23 @@ fn fir() -> Program {
     put(&mut program, SAMPLES, (0..samples).map(sample));
     put(&mut program, COEFFICIENTS, TAPS.into_iter());
     program
+}
+
+/// Block transfers of fifteen and of sixteen registers, loads and stores, with a sum and a branch.
+fn blocks() -> Program {
+    const ALL: u32 = 0xFFFF;
+    const BUT_R15: u32 = 0x7FFF;
+    let code = [
+        mov(13, rotated(11, 1)), // 0x400
+        // 4: again
+        block(STORE | UP, 13, ALL), // R15 as 16
+        block(LOAD | UP, 13, BUT_R15),
+        block(LOAD | UP, 13, ALL), // on to 16
+        block(STORE | BEFORE, 13, BUT_R15), // 16
+        op(ADD, 0, 1, plain(0)),
+        branch_to(24, 4),
+    ];
+    program(&code, [0x0123_4567; 15])
 }
 
 /// Frames of a sync word, fifteen words of data and their sum, and a wait between them.

@@ -21,3 +21,4 @@ pub mod settle;
 pub mod stores;
 pub mod sums;
 pub mod vectors;
+pub mod walk;

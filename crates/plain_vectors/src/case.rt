@@ -1,5 +1,5 @@
 // A case: `mode length lent entry flags stop count k`, then fifteen registers and k words of memory.
-use crate::state;
+use crate::{state, walked};
 use memory::Board;
 use plain::Plain;
 use plain::refused::Refusal;
@@ -39,10 +39,17 @@ pub fn report() -> bool {
     };
     let lent = buffer::bytes(&whole, lent);
     print::field(b"", answer, 8);
-    match plain.run(&mut whole[..lent], u64::from(count)) {
-        Ok(ran) => state::print(number(ran.stop), ran.used, ran.machine),
-        Err(refusal) => state::print(refusal.into(), 0, plain),
-    }
+    let left = match plain.run(&mut whole[..lent], u64::from(count)) {
+        Ok(ran) => {
+            state::print(number(ran.stop), ran.used, ran.machine);
+            ran.machine
+        }
+        Err(refusal) => {
+            state::print(refusal.into(), 0, plain);
+            plain
+        }
+    };
+    print::words(&walked::at(left, &whole[..lent]));
     buffer::print_words(&whole[..length]);
     print::bytes(b"\n");
     true

@@ -15,6 +15,7 @@ use Rattle.semantics.specs.Duration as duration
 use Rattle.semantics.specs.Sums as sums
 use Rattle.stops.specs.Rules as rules
 use Rattle.stops.specs.Moves as moves
+use Rattle.stops.specs.Walk as walk
 use Rattle.stops.specs.Stops as stops
 use Rattle.plain.specs.Numbers as plain
 use Rattle.plain.specs.Running.{runs}
@@ -36,7 +37,7 @@ use Rattle.rate.specs.Marked.{Whole, Marked}
 use Rattle.rate.proofs.Marked.{limits, choices, outcomes, texts}
 
 pub whole : Whole
-unfolding bits.field bits.bit reader.read_of condition.passes shifter.constant shifter.ror shifter.rotated alu.sum alu.difference alu.operate alu.flags_of counter.ahead counter.counter counter.r15_word counter.behind bytes.holds_word bytes.word_in bytes.with_word memory.place memory.limit memory.word_at registers.register registers.put registers.arrives processing.operand_of processing.computed_of processing.flags_after processing.stored processing.processed single.offset_of single.changed_base single.address_of single.with_base single.stored_value single.stored_to duration.stores_counter sums.sums_of rules.rule_broken moves.moves_of stops.due stops.moved_stop stops.stop_of stops.stop_for plain.start_answer runs steps.first_step steps.later_step steps.store_later own_of cycle stop_found start fresh handed bad_window noted rate levels_from greatest_of grows overflow_from left width coming stored_by stored rises refused chosen answer
+unfolding bits.field bits.bit reader.read_of condition.passes shifter.constant shifter.ror shifter.rotated alu.sum alu.difference alu.operate alu.flags_of counter.ahead counter.counter counter.r15_word counter.behind bytes.holds_word bytes.word_in bytes.with_word memory.place memory.limit memory.word_at registers.register registers.put registers.arrives processing.operand_of processing.computed_of processing.flags_after processing.stored processing.processed single.offset_of single.changed_base single.address_of single.with_base single.stored_value single.stored_to duration.stores_counter sums.sums_of rules.rule_broken moves.moves_of walk.walk stops.due stops.stop_of stops.stop_for plain.start_answer runs steps.first_step steps.later_step steps.store_later own_of cycle stop_found start fresh handed bad_window noted rate levels_from greatest_of grows overflow_from left width coming stored_by stored rises refused chosen answer
 whole = record { ended = refl; stopped = refl; refused = refl }
 
 pub marked : Marked

@@ -17,6 +17,7 @@ use Rattle.registers.specs.State.{State}
 use Rattle.transfer.proofs.Lengths.{stored-to-alike, stores-all-alike}
 use Rattle.stops.specs.Rules.{rule_broken}
 use Rattle.stops.specs.Moves.{moved_by, stored_by}
+use Rattle.stops.proofs.Walks.{stop-was}
 use Rattle.stops.specs.Stops as stops
 use Rattle.stops.specs.Stops.{Due, no_word_there, skipped, executes, due, stop_due, stop_for}
 use Rattle.semantics.specs.Effect as effects
@@ -184,7 +185,7 @@ among true q m h k o = inr (h, k)
 among false q m h k o = o
 
 pub stop-for : (x : Option ℕ) (s : State) → Stop (stop_for x s)
-unfolding stop_for stops.stop_of stops.moved_stop
+unfolding stop_for stops.moved_stop
 stop-for x s = go (due x s.status)
   where
     go : (d : Due) → Stop (stop_due d s)
@@ -193,10 +194,11 @@ stop-for x s = go (due x s.status)
     go (executes i) =
         let stored = stored_by i s in
         let board = s.memory.board in
-        among (is_other i) 22 _ (omega arith) (omega arith)
+        rw (stop-was i s)
+        (among (is_other i) 22 _ (omega arith) (omega arith)
         (among (not (eqb (rule_broken i s) 0)) 23 _ (omega arith) (omega arith)
         (among (stops.outside (moved_by i s) board) 24 _ (omega arith) (omega arith)
-        (among (stops.hits stored (ahead s.a 4) board || stops.hits stored (ahead s.a 8) board) 25 0 (omega arith) (omega arith) (inl refl))))
+        (among (stops.hits stored (ahead s.a 4) board || stops.hits stored (ahead s.a 8) board) 25 0 (omega arith) (omega arith) (inl refl)))))
 
 pub stop-met : (p : plain.Machine) → Stop (stop_met p)
 stop-met p = rw (stop_is p) (stop-for (word_of p) (plain.state_of p))

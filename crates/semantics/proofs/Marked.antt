@@ -17,14 +17,15 @@ use Rattle.transfer.specs.Block.{named_from, named, changed_base, lowest_address
 use Rattle.semantics.specs.Branch.{branched}
 use Rattle.stops.specs.Rules.{rule_broken}
 use Rattle.stops.specs.Moves.{moves_of}
-use Rattle.stops.specs.Stops.{due, moved_stop, stop_of}
+use Rattle.stops.specs.Walk.{walk}
+use Rattle.stops.specs.Stops.{due, stop_of}
 use Rattle.semantics.specs.Effect.{load_effect, store_effect, block_load_effect, block_store_effect, effect_of}
 use Rattle.semantics.specs.Duration.{own_steps}
 use Rattle.semantics.specs.Perform.{executed, performs}
 use Rattle.semantics.specs.Marked.{Marked}
 
 pub marked : Marked
-unfolding field bit read_of passes rotated lsl lsr ror shift by_register by_amount constant sum difference operate flags_of operand_of computed_of flags_after stored processed ahead r15_word holds_word word_in with_word place limit register put arrives offset_of address_of loaded_value stored_value stored_to single.changed_base single.with_base named_from named changed_base lowest_address with_base loads stores stores_all branched load_effect store_effect block_load_effect block_store_effect effect_of own_steps rule_broken moves_of due moved_stop stop_of executed performs
+unfolding field bit read_of passes rotated lsl lsr ror shift by_register by_amount constant sum difference operate flags_of operand_of computed_of flags_after stored processed ahead r15_word holds_word word_in with_word place limit register put arrives offset_of address_of loaded_value stored_value stored_to single.changed_base single.with_base named_from named changed_base lowest_address with_base loads stores stores_all branched load_effect store_effect block_load_effect block_store_effect effect_of own_steps rule_broken moves_of walk due stop_of executed performs
 marked = record {
   subs_equal = λ f. record { result = refl; flags = refl };
   subs_borrow = λ f. record { result = refl; flags = refl };

@@ -11,14 +11,15 @@ use Rattle.multiply.specs.InternalCycles.{first_above, m_of}
 use Rattle.multiply.specs.Multiply.{product_of, flags_after, multiplied}
 use Rattle.stops.specs.Rules.{rule_broken}
 use Rattle.stops.specs.Moves.{moves_of}
-use Rattle.stops.specs.Stops.{due, moved_stop, stop_of}
+use Rattle.stops.specs.Walk.{walk}
+use Rattle.stops.specs.Stops.{due, stop_of}
 use Rattle.semantics.specs.Effect.{effect_of}
 use Rattle.semantics.specs.Duration.{own_steps}
 use Rattle.semantics.specs.Perform.{executed, performs}
 use Rattle.semantics.specs.MarkedMultiply.{MarkedMultiply}
 
 pub marked-multiply : MarkedMultiply
-unfolding field bit read_of passes flags_of ahead register put first_above m_of product_of flags_after multiplied effect_of own_steps rule_broken moves_of due moved_stop stop_of executed performs
+unfolding field bit read_of passes flags_of ahead register put first_above m_of product_of flags_after multiplied effect_of own_steps rule_broken moves_of walk due stop_of executed performs
 marked-multiply = record {
   mul = λ f. record { result = refl; flags = refl };
   mla = λ f. record { result = refl; flags = refl };

@@ -14,13 +14,14 @@ use Rattle.transfer.specs.Single.{offset_of, changed_base, address_of}
 use Rattle.transfer.specs.Block as block
 use Rattle.stops.specs.Rules.{rule_broken}
 use Rattle.stops.specs.Moves.{moves_of}
-use Rattle.stops.specs.Stops.{due, moved_stop, stop_of}
+use Rattle.stops.specs.Walk.{walk}
+use Rattle.stops.specs.Stops.{due, stop_of}
 use Rattle.semantics.specs.Duration.{stores_counter}
 use Rattle.semantics.specs.Sums.{sums_of, executed_sums, performs_sums}
 use Rattle.semantics.specs.MarkedSums.{MarkedSums}
 
 pub marked_sums : MarkedSums
-unfolding field bit read_of passes shift lsl by_amount by_register operate flags_of ahead place limit register first_above m_of offset_of changed_base address_of block.named_from block.named block.changed_base block.lowest_address rule_broken moves_of due moved_stop stop_of stores_counter sums_of executed_sums performs_sums
+unfolding field bit read_of passes shift lsl by_amount by_register operate flags_of ahead place limit register first_above m_of offset_of changed_base address_of block.named_from block.named block.changed_base block.lowest_address rule_broken moves_of walk due stop_of stores_counter sums_of executed_sums performs_sums
 marked_sums = record {
   failed = record { sums = refl; ticks = refl };
   failed_branch = record { sums = refl; ticks = refl };

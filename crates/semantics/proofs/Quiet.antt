@@ -1,7 +1,7 @@
 -- What an instruction that meets no stop knows.
 -- Assumes nothing.
 use Prim.Native.Nat.{ℕ, suc}
-use mathlib.Core.Path.{◌≡◌, refl}
+use mathlib.Core.Path.{◌≡◌, refl, sym, ◌∙◌}
 use mathlib.Core.List.{List, [], ◌∷◌}
 use mathlib.Core.Bool.{Bool, true, false, not, ◌||◌}
 use native.Mathlib.Omega.{arith}
@@ -18,6 +18,7 @@ use Rattle.transfer.specs.Block as block
 use Rattle.stops.specs.Rules.{first_broken, is15, rule_broken}
 use Rattle.stops.specs.Moves.{moved_by, stored_by}
 use Rattle.stops.specs.Stops.{outside, hits, moved_stop, stop_of}
+use Rattle.stops.proofs.Walks.{stop-was}
 use Rattle.semantics.proofs.Both.{or-false}
 
 quiet : (b : Bool) (q : ℕ) {m : ℕ} → pick b (suc q) m ≡ 0 → (b ≡ false) × (m ≡ 0)
@@ -32,9 +33,9 @@ pub record Quiet (i : Instruction) (s : State) : Type 0 where
   pub clear8 : hits (stored_by i s) (ahead s.a 8) s.memory.board ≡ false
 
 pub quietly : (i : Instruction) (s : State) → stop_of i s ≡ 0 → Quiet i s
-unfolding stop_of moved_stop
+unfolding moved_stop
 quietly i s e =
-    let p = quiet (is_other i) 21 e in
+    let p = quiet (is_other i) 21 (sym (stop-was i s) ∙ e) in
     let q = quiet (not (eqb (rule_broken i s) 0)) 22 p.1 in
     let r = quiet (outside (moved_by i s) s.memory.board) 23 q.1 in
     let u = quiet (hits (stored_by i s) (ahead s.a 4) s.memory.board || hits (stored_by i s) (ahead s.a 8) s.memory.board) 24 r.1 in

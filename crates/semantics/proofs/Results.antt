@@ -24,7 +24,8 @@ use Rattle.transfer.specs.Block as block
 use Rattle.stops.specs.Numbers.{no_word, other_word}
 use Rattle.stops.specs.Rules.{rule_broken}
 use Rattle.stops.specs.Moves.{moves_of}
-use Rattle.stops.specs.Stops.{due, moved_stop, stop_of}
+use Rattle.stops.specs.Walk.{walk}
+use Rattle.stops.specs.Stops.{due, stop_of}
 use Rattle.semantics.specs.Perform.{Told}
 use Rattle.semantics.specs.Branch.{branched}
 use Rattle.semantics.specs.Effect.{Effect, effect, Left, base_then_register, base_then_registers, load_effect, store_effect, block_load_effect, block_store_effect, effect_of}
@@ -109,7 +110,7 @@ processing-done i s {steps} n c q o = rw (← n) (finished s steps {o = (effect_
 pub branch-done : (i : Branch) (s : State) {p : Told} {h : List ℕ} {f₂ : ℕ} {t : Option ℕ}
     → p ≡ performed 0 f₂ (next_address s.a t) (1 + refills t) → out h f₂ t ≡ branched i s.registers s.status s.a
     → result_of p h s.memory ≡ executed (Instruction.Branch i) s
-unfolding executed stop_of rule_broken moved_stop moves_of own_steps effect_of
+unfolding executed stop_of rule_broken walk moves_of own_steps effect_of
 branch-done i s q o = finished s 1 q o
 
 pub multiply-done : (i : Multiply) (s : State) {steps : ℕ} {p : Told} {h : List ℕ} {f₂ : ℕ}

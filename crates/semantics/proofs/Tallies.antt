@@ -133,7 +133,7 @@ module _ (w : Tally) where
 
   pub branch-raises : (i : Branch) (s : State) {v : Tally} {h : List ℕ} {f : ℕ} {t : Option ℕ}
       → v ≡ with_refills w t → out h f t ≡ branched i s.registers s.status s.a → v ≡ raised w (executed_sums (Instruction.Branch i) s)
-  unfolding executed_sums stop_of Rattle.stops.specs.Rules.rule_broken Rattle.stops.specs.Stops.moved_stop Rattle.stops.specs.Moves.moves_of sums_of branched
+  unfolding executed_sums stop_of Rattle.stops.specs.Rules.rule_broken Rattle.stops.specs.Walk.walk Rattle.stops.specs.Moves.moves_of sums_of branched
   branch-raises i s {t = t} e o = e ∙ ap (λ (x : Out). with_refills w x.goes) o
 
   -- stopped or done

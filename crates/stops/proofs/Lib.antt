@@ -1,4 +1,6 @@
 pub mod Spans
+pub mod Walks
+pub mod Looks
 pub mod Marked
 pub mod BrokenRules
 pub mod StopOrder

@@ -24,7 +24,9 @@ use Rattle.stops.specs.Rules.{rule_broken}
 use Rattle.stops.specs.Moves.{loads, moves_from, moves_of, addresses, moved_by, stored_by, span}
 use Rattle.stops.specs.Stops.{outside, hits, ordered, due, moved_stop, stop_of, stop_for}
 use Rattle.stops.specs.StopOrder.{moved_count, first_moved, storing, Outside, Fetched, StopOrder, Ordered, MarkedOrder}
+use Rattle.stops.specs.Walk.{walk}
 use Rattle.stops.proofs.Spans.{inside, some-outside, hit, no_hit}
+use Rattle.stops.proofs.Walks.{stop-was}
 
 -- ---- the tests of a list of addresses, as words that there are
 
@@ -163,7 +165,7 @@ unfolding ahead
 ahead-lt a n = omega arith
 
 pub stop-order : Ordered
-unfolding stop_of moved_stop limit
+unfolding moved_stop limit
 stop-order i s other rule word short =
     let n = moved_count i in
     let x = first_moved i s in
@@ -173,7 +175,7 @@ stop-order i s other rule word short =
     order i s
     (outside (span n x) board)
     (hits (pick (storing i) (span n x) []) (ahead a 4) board || hits (pick (storing i) (span n x) []) (ahead a 8) board)
-    (rw (other, rule, stored-span s i, moved-span s i))
+    (stop-was i s ∙ rw (other, rule, stored-span s i, moved-span s i))
     (λ p. outside-met n x board p.0 p.1 (omega (arith, p.2)))
     (λ e. unwrapped n x board.size word short (outside-some n x board e))
     (λ e. either-met n x (ahead a 4) (ahead a 8) board (all-low e) (storing i))
@@ -189,7 +191,7 @@ stop-order i s other rule word short =
             never (sym e ∙ outside-met n x board k h (omega arith))
 
 pub marked-order : MarkedOrder
-unfolding field bit read_of passes ahead register block.named block.named_from block.changed_base block.lowest_address rule_broken place limit moves_of due moved_stop stop_of stop_for
+unfolding field bit read_of passes ahead register block.named block.named_from block.changed_base block.lowest_address rule_broken place limit moves_of walk due stop_of stop_for
 marked-order = record {
   up = λ f. refl;
   up_inside = λ f. refl;

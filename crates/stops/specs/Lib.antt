@@ -1,7 +1,10 @@
 pub mod Numbers
 pub mod Rules
 pub mod Moves
+pub mod Walk
+pub mod Told
 pub mod Stops
+pub mod Looks
 pub mod StopOrder
 pub mod BrokenRules
 pub mod Hidden

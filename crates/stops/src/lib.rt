@@ -5,3 +5,4 @@ pub mod reason;
 pub mod rules;
 pub mod span;
 pub mod stop;
+pub mod walk;

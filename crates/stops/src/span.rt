@@ -1,9 +1,24 @@
-// The addresses of n words from a first one, 4 apart: whether one lies outside memory, or in a given word.
-ghost use Rattle.std.specs.Prelude.{◌≡◌};
+// Addresses that are moved: whether one is in a word fetched ahead; of n from a first one, 4 apart, whether one lies outside memory, or in a given word.
+ghost use Rattle.std.specs.Prelude.{◌≡◌, ◌||◌};
+ghost use Rattle.datapath.specs.Counter.{ahead};
 ghost use Rattle.stops.specs.Moves.{span};
+ghost use Rattle.stops.specs.Walk.{same_word, fetched_ahead};
 ghost use Rattle.stops.specs.Stops.{outside, hits};
 
-use memory::{Board, limit};
+use datapath::counter::ahead;
+use memory::{Board, limit, place};
+
+fn same_word(at: u32, b: u32, board: Board) -> bool
+    ensures { result ≡ same_word at b board }
+{
+    place(board, at) / 4 == place(board, b) / 4
+}
+
+pub fn fetched_ahead(at: u32, a: u32, board: Board) -> bool
+    ensures { result ≡ fetched_ahead at a board }
+{
+    same_word(at, ahead(a, 4), board) | same_word(at, ahead(a, 8), board)
+}
 
 // The last address is the only one to test.
 #[tactic(auto, using(crate::proofs::Spans::last_decides))]

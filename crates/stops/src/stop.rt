@@ -1,7 +1,7 @@
 // The stop that is met where an instruction begins, 21 to 25 in their order.
-#![tactic(auto, unfolding(crate::specs::Stops::stop_of, crate::specs::Stops::stop_for, crate::specs::Stops::moved_stop, crate::specs::Stops::due, crate::specs::Rules::rule_broken, crate::specs::Moves::moves_of))]
+#![tactic(auto, unfolding(crate::specs::Stops::stop_of, crate::specs::Stops::stop_for, crate::specs::Stops::moved_stop, crate::specs::Stops::due, crate::specs::Rules::rule_broken, crate::specs::Moves::moves_of, crate::specs::Walk::walk))]
 
-ghost use Rattle.std.specs.Prelude.{◌≡◌, ◌||◌, List, [], ℕ};
+ghost use Rattle.std.specs.Prelude.{◌≡◌, ◌||◌, List, [], ℕ, eqb};
 ghost use Rattle.datapath.specs.Counter.{ahead};
 ghost use Rattle.bits.specs.Choice.{pick};
 ghost use Rattle.word.specs.declared.Instruction.{Instruction};
@@ -15,6 +15,7 @@ ghost use Rattle.stops.specs.Stops.{hits, ordered, moved_stop, single_stop_at, s
 use crate::reason::Stop;
 use crate::rules::{block_rule, multiply_rule, processing_rule, single_rule};
 use crate::span::{hits, outside};
+use crate::walk::walk;
 use bits::field;
 use condition::passes;
 use datapath::counter::ahead;
@@ -25,7 +26,7 @@ use transfer::single::address;
 use word::{Block, Instruction, Multiply, Processing, Single, reader};
 
 // A word at A+4 or A+8 is among them.
-fn fetched_ahead(first: u32, n: u32, c: Context) -> bool
+fn hits_ahead(first: u32, n: u32, c: Context) -> bool
     ensures { result ≡ (hits (span n first) (ahead c.a 4) c.board || hits (span n first) (ahead c.a 8) c.board) }
 {
     hits(first, n, ahead(c.a, 4), c.board) | hits(first, n, ahead(c.a, 8), c.board)
@@ -52,7 +53,14 @@ fn moved_stop(first: u32, n: u32, load: bool, c: Context) -> Result<(), Stop>
     if load {
         return ordered(out, false);
     }
-    ordered(out, fetched_ahead(first, n, c))
+    ordered(out, hits_ahead(first, n, c))
+}
+
+// Nothing of that is met, as the two ends tell.
+fn clear(first: u32, n: u32, load: bool, c: Context) -> bool
+    ensures { result ≡ eqb (moved_stop (span n first) (pick load [] (span n first)) c.a c.board) 0 }
+{
+    !outside(first, n, c.board) && (load || !hits_ahead(first, n, c))
 }
 
 pub fn processing_stop(i: Processing) -> Result<(), Stop>
@@ -80,7 +88,11 @@ pub fn block_stop(i: Block, registers: &[u32; 15], c: Context) -> Result<(), Sto
     ensures { (bytes : List ℕ) → stop_number result ≡ stop_of (Instruction.Block i) (state_in c registers.now bytes) }
 {
     block_rule(i)?;
-    moved_stop(lowest_address(i, registers), count(i.list), i.l, c)
+    // Sooner than a walk, which is for where there is a stop to find.
+    if clear(lowest_address(i, registers), count(i.list), i.l, c) {
+        return Ok(());
+    }
+    walk(i, registers, c).stop
 }
 
 pub fn multiply_stop(i: Multiply) -> Result<(), Stop>

@@ -2,6 +2,7 @@
 
 use crate::memory;
 use crate::plain::Plain;
+use crate::walk;
 
 /// The buffer that holds every case's memory, in bytes.
 pub const BUFFER: usize = 65_544;
@@ -158,7 +159,8 @@ impl Case {
         (start, answer, done, plain, buffer)
     }
 
-    /// The tokens of the expected line.
+    /// The tokens of the expected line: what the outcome says, and behind its registers the walk that
+    /// is due after it.
     pub fn expected(&self) -> Vec<u32> {
         let (start, answer, done, plain, buffer) = self.outcome();
         let mut tokens = vec![
@@ -171,6 +173,8 @@ impl Case {
             plain.length,
         ];
         tokens.extend(plain.r);
+        let due = walk::due(&plain, &buffer[..self.lent as usize]);
+        tokens.extend([due.stop, due.looked]);
         let words = self.length.min(256) / 4;
         tokens.extend((0..words).map(|index| memory::word(&buffer, 4 * index)));
         tokens

@@ -13,6 +13,7 @@ mod refusals;
 mod shifts;
 mod singles;
 mod stops;
+mod walks;
 mod whole_programs;
 
 pub use case::{Case, BUFFER};
@@ -30,6 +31,7 @@ pub fn cases() -> Vec<Case> {
         branches::cases(),
         multiplies::cases(),
         stops::cases(),
+        walks::cases(),
         refusals::cases(),
         counts::cases(),
         whole_programs::cases(),
