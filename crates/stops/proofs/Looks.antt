@@ -2,7 +2,7 @@
 -- Assumes nothing.
 use Prim.Native.Nat.{ℕ, zero, suc, ◌+◌, ◌*◌, ◌%◌, ◌^◌, ◌≤◌, ◌<◌}
 use mathlib.Core.Path.{◌≡◌, refl, sym, ap, ◌∙◌}
-use mathlib.Core.Bool.{Bool, true, false, not, ◌||◌, ◌&&◌}
+use mathlib.Core.Bool.{Bool, true, false}
 use mathlib.Core.List.{List, [], ◌∷◌}
 use native.Mathlib.Omega.{arith}
 use lib.Count.{ones}
@@ -14,7 +14,6 @@ use borrow.Author.Tests.{ltb-true, ltb-false, eqb-true}
 use Rattle.bits.specs.Bits.{bit, field}
 use Rattle.bits.specs.Choice.{pick}
 use Rattle.word.specs.declared.Block.{Block}
-use Rattle.word.specs.declared.Instruction.{Instruction}
 use Rattle.word.specs.Reader.{read_of}
 use Rattle.datapath.specs.Counter.{ahead}
 use Rattle.registers.specs.Registers.{register}
@@ -24,10 +23,10 @@ use Rattle.registers.specs.State.{State}
 use Rattle.transfer.specs.Block as block
 use Rattle.transfer.specs.Block.{named}
 use Rattle.transfer.proofs.NamedRegisters.{named_count}
-use Rattle.transfer.proofs.NamedPlaces.{named-at, named-back, below-rises}
+use Rattle.transfer.proofs.NamedPlaces.{named-back, below-rises}
 use Rattle.stops.specs.Moves.{moves_from, moves_of}
-use Rattle.stops.specs.Walk.{Walked, fetched_ahead, behind, walk, walk_of}
-use Rattle.stops.specs.Looks.{below, place_of, Names, Looks, Looking, MarkedWalks}
+use Rattle.stops.specs.Walk.{Walked, behind, walk}
+use Rattle.stops.specs.Looks.{below, place_of, Names, Looking, MarkedWalks}
 
 -- ---- a walk over registers from an address on, by their number
 

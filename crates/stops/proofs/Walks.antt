@@ -1,21 +1,20 @@
 -- A walk finds the stop that all addresses at once have.
 -- Assumes nothing.
-use Prim.Native.Nat.{ℕ, zero, suc, ◌+◌}
-use mathlib.Core.Path.{◌≡◌, refl, sym, ap, ◌∙◌}
-use mathlib.Core.Bool.{Bool, true, false, not, ◌||◌, ◌&&◌}
+use Prim.Native.Nat.{ℕ}
+use mathlib.Core.Path.{◌≡◌, refl, ap}
+use mathlib.Core.Bool.{Bool, true, false, not}
 use mathlib.Core.List.{List, [], ◌∷◌}
 use native.Mathlib.Omega.{arith}
 use lib.Dec.{eqb}
 use Rattle.bits.specs.Choice.{pick}
 use Rattle.word.specs.declared.Instruction.{Instruction}
 use Rattle.word.specs.Reader.{is_other}
-use Rattle.datapath.specs.Counter.{ahead}
 use Rattle.memory.specs.declared.Board.{Board}
 use Rattle.registers.specs.State.{State}
 use Rattle.stops.specs.Rules.{rule_broken}
 use Rattle.stops.specs.Moves.{Move, loads, moves_of, addresses, moved_by, stored_by}
-use Rattle.stops.specs.Walk.{unanswered, same_word, Walked, behind, walk, walk_of}
-use Rattle.stops.specs.Stops.{outside, hits, ordered, moved_stop, stop_of}
+use Rattle.stops.specs.Walk.{walk}
+use Rattle.stops.specs.Stops.{moved_stop, stop_of}
 use Rattle.stops.specs.Looks.{AllAtOnce}
 
 -- ---- the stop

@@ -1,5 +1,5 @@
 -- How many registers a walk over a block looks at, and which is the last (paper 02 §5), by the bits of the list: a second road to the walk.
-use Rattle.std.specs.Prelude.{ℕ, suc, ◌+◌, ◌*◌, ◌%◌, ◌^◌, ◌≤◌, ◌<◌, ◌≡◌, true, List, [], ◌∷◌, length, replicate}
+use Rattle.std.specs.Prelude.{ℕ, suc, ◌+◌, ◌*◌, ◌%◌, ◌^◌, ◌≤◌, ◌<◌, ◌≡◌, true, [], ◌∷◌, length, replicate}
 use Rattle.bits.specs.Bits.{bit}
 use Rattle.word.specs.declared.Block.{Block}
 use Rattle.word.specs.declared.Instruction.{Instruction}
@@ -47,25 +47,25 @@ AllAtOnce = (i : Instruction) (s : State) → (walk_of i s).stop ≡ moved_stop 
 abbrev pub walk_at : ℕ → ℕ → ℕ → Walked
 walk_at word r1 size = walk_of (read_of word) (state (0 ∷ r1 ∷ replicate 13 0) 0 0x20 (memory_of (record { size = size }) []))
 
-abbrev pub walked : ℕ → ℕ → Walked
-walked stop looked = record { stop = stop; looked = looked }
+abbrev pub after : ℕ → ℕ → Walked
+after stop looked = record { stop = stop; looked = looked }
 
 pub record MarkedWalks : Type 0 where
   -- STMIA R1, {R0,R2,R7,R15}: 28, the fourth, is outside, and 24, the third, is fetched
-  pub third_and_fourth : walk_at 0xE8818085 0x1C 0x28 ≡ walked 24 4
-  pub third : walk_at 0xE8818085 0x1C 0x2C ≡ walked 25 4
-  pub first : walk_at 0xE8818085 0x28 0x28 ≡ walked 24 1
-  pub second : walk_at 0xE8818085 0x24 0x28 ≡ walked 24 2
-  pub none : walk_at 0xE8818085 0x10 0x28 ≡ walked 0 4
+  pub third_and_fourth : walk_at 0xE8818085 0x1C 0x28 ≡ after 24 4
+  pub third : walk_at 0xE8818085 0x1C 0x2C ≡ after 25 4
+  pub first : walk_at 0xE8818085 0x28 0x28 ≡ after 24 1
+  pub second : walk_at 0xE8818085 0x24 0x28 ≡ after 24 2
+  pub none : walk_at 0xE8818085 0x10 0x28 ≡ after 0 4
   -- STMDA R1, {R0,R2,R7,R15} moves the same words
-  pub down : walk_at 0xE8018085 0x28 0x28 ≡ walked 24 4
+  pub down : walk_at 0xE8018085 0x28 0x28 ≡ after 24 4
   -- STMIA R1, {R14}
-  pub one : walk_at 0xE8814000 0x24 0x40 ≡ walked 25 1
-  pub one_outside : walk_at 0xE8814000 0x40 0x40 ≡ walked 24 1
+  pub one : walk_at 0xE8814000 0x24 0x40 ≡ after 25 1
+  pub one_outside : walk_at 0xE8814000 0x40 0x40 ≡ after 24 1
   -- LDMIA R1, of all sixteen
-  pub load : walk_at 0xE891FFFF 0x00 0x24 ≡ walked 24 10
-  pub load_inside : walk_at 0xE891FFFF 0x00 0x40 ≡ walked 0 16
+  pub load : walk_at 0xE891FFFF 0x00 0x24 ≡ after 24 10
+  pub load_inside : walk_at 0xE891FFFF 0x00 0x40 ≡ after 0 16
   -- LDMIA R1, {R0,R1}, the second past 2^32
-  pub past : walk_at 0xE8910003 0xFFFFFFFC 0x40 ≡ walked 24 1
+  pub past : walk_at 0xE8910003 0xFFFFFFFC 0x40 ≡ after 24 1
   -- LDMIA R1, {}
-  pub nobody : walk_at 0xE8910000 0x00 0x40 ≡ walked 0 0
+  pub nobody : walk_at 0xE8910000 0x00 0x40 ≡ after 0 0

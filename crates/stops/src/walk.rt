@@ -3,8 +3,7 @@ ghost use Rattle.std.specs.Prelude.{◌≡◌, List, ℕ};
 ghost use Rattle.memory.specs.Memory.{memory_of};
 ghost use Rattle.registers.specs.State.{state_in};
 ghost use Rattle.word.specs.declared.Instruction.{Instruction};
-ghost use Rattle.stops.specs.Walk.{walk_of};
-ghost use Rattle.stops.specs.Told.{walked};
+ghost use Rattle.stops.specs.Walk.{walked, walk_of};
 
 use crate::reason::Stop;
 use crate::span::fetched_ahead;
