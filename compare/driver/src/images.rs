@@ -256,7 +256,7 @@ fn blocks() -> Program {
         // 4: again
         block(STORE | UP, 13, ALL), // R15 as 16
         block(LOAD | UP, 13, BUT_R15),
-        block(LOAD | UP, 13, ALL), // on to 16
+        block(LOAD | UP, 13, ALL),          // on to 16
         block(STORE | BEFORE, 13, BUT_R15), // 16
         op(ADD, 0, 1, plain(0)),
         branch_to(24, 4),

@@ -2,6 +2,7 @@
 
 pub mod archive;
 pub mod arguments;
+pub mod block_stops;
 pub mod comparison;
 pub mod counts;
 pub mod dense;

@@ -2,9 +2,9 @@
 // that breaks a rule of 23; the condition is not asked.
 use memory;
 use plain::Plain;
-use registers::Context;
 use stops::rules::block_rule;
 use stops::walk::walk;
+use transfer::block::lowest_address;
 use word::{Block, Instruction, reader};
 
 fn block_due(plain: Plain, memory: &[u8]) -> Option<Block> {
@@ -21,12 +21,8 @@ pub fn at(plain: Plain, memory: &[u8]) -> [u32; 2] {
     let Some(i) = block_due(plain, memory) else {
         return [0; 2];
     };
-    let context = Context {
-        flags: plain.flags,
-        a: plain.a,
-        board: plain.board,
-    };
-    let found = walk(i, &plain.registers, context);
+    let first = lowest_address(i, &plain.registers);
+    let found = walk(i.list, first, i.l, plain.a, plain.board);
     let stop = match found.stop {
         Ok(()) => 0,
         Err(stop) => stop.into(),

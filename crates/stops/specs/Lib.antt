@@ -2,6 +2,7 @@ pub mod Numbers
 pub mod Rules
 pub mod Moves
 pub mod Walk
+pub mod Told
 pub mod Stops
 pub mod Looks
 pub mod StopOrder

@@ -7,8 +7,7 @@ use Rattle.datapath.specs.Counter.{ahead}
 use Rattle.memory.specs.declared.Board.{Board}
 use Rattle.memory.specs.Memory.{place, limit}
 use Rattle.registers.specs.State.{State}
-use Rattle.stops.specs.declared.walk.Found.{Found}
-use Rattle.stops.specs.Numbers.{outside_memory, fetched_word, stop_number}
+use Rattle.stops.specs.Numbers.{outside_memory, fetched_word}
 use Rattle.stops.specs.Moves.{Move, moves_of, loads}
 
 -- an address at which nothing answers
@@ -26,10 +25,6 @@ fetched_ahead at a board = same_word at (ahead a 4) board || same_word at (ahead
 pub record Walked : Type 0 where
   pub stop : ℕ
   pub looked : ℕ
-
--- the same as the code hands it back
-abbrev pub walked : Found → Walked
-walked found = record { stop = stop_number found.stop; looked = found.looked }
 
 -- what a walk comes to behind n registers that met no 24: a 24 is the stop also where one of them met 25
 abbrev pub behind : ℕ → Bool → Walked → Walked

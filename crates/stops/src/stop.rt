@@ -15,7 +15,7 @@ ghost use Rattle.stops.specs.Stops.{hits, ordered, moved_stop, single_stop_at, s
 use crate::reason::Stop;
 use crate::rules::{block_rule, multiply_rule, processing_rule, single_rule};
 use crate::span::{hits, outside};
-use crate::walk::walk;
+use crate::walk::walk_stop;
 use bits::field;
 use condition::passes;
 use datapath::counter::ahead;
@@ -56,7 +56,7 @@ fn moved_stop(first: u32, n: u32, load: bool, c: Context) -> Result<(), Stop>
     ordered(out, hits_ahead(first, n, c))
 }
 
-// Nothing of that is met, as the two ends tell.
+// Neither is met, as the two ends tell.
 fn clear(first: u32, n: u32, load: bool, c: Context) -> bool
     ensures { result ≡ eqb (moved_stop (span n first) (pick load [] (span n first)) c.a c.board) 0 }
 {
@@ -88,11 +88,12 @@ pub fn block_stop(i: Block, registers: &[u32; 15], c: Context) -> Result<(), Sto
     ensures { (bytes : List ℕ) → stop_number result ≡ stop_of (Instruction.Block i) (state_in c registers.now bytes) }
 {
     block_rule(i)?;
-    // Sooner than a walk, which is for where there is a stop to find.
-    if clear(lowest_address(i, registers), count(i.list), i.l, c) {
+    let first = lowest_address(i, registers);
+    // Sooner than the walk, which is for where there is a stop to find.
+    if clear(first, count(i.list), i.l, c) {
         return Ok(());
     }
-    walk(i, registers, c).stop
+    walk_stop(i.list, first, i.l, c.a, c.board)
 }
 
 pub fn multiply_stop(i: Multiply) -> Result<(), Stop>

@@ -1,17 +1,15 @@
 // A walk over the named registers of a block, lowest first: the stop that it finds, and how many it looked at.
-ghost use Rattle.std.specs.Prelude.{◌≡◌, List, ℕ};
-ghost use Rattle.memory.specs.Memory.{memory_of};
-ghost use Rattle.registers.specs.State.{state_in};
-ghost use Rattle.word.specs.declared.Instruction.{Instruction};
-ghost use Rattle.stops.specs.Walk.{walked, walk_of};
+ghost use Rattle.std.specs.Prelude.{◌≡◌};
+ghost use Rattle.transfer.specs.Block.{named};
+ghost use Rattle.stops.specs.Numbers.{stop_number};
+ghost use Rattle.stops.specs.Moves.{moves_from};
+ghost use Rattle.stops.specs.Walk.{walk};
+ghost use Rattle.stops.specs.Told.{walked};
 
 use crate::reason::Stop;
 use crate::span::fetched_ahead;
-use memory::limit;
-use registers::Context;
-use transfer::block::lowest_address;
+use memory::{Board, limit};
 use transfer::named::NamedRegisters;
-use word::Block;
 
 // What a walk hands back.
 #[derive(Clone, Copy)]
@@ -22,15 +20,16 @@ pub struct Found {
     pub looked: u32,
 }
 
-#[tactic(auto, unfolding(crate::specs::Walk::walk, crate::specs::Moves::moves_of))]
-pub fn walk(i: Block, registers: &[u32; 15], c: Context) -> Found
-    ensures { (bytes : List ℕ) → walked result ≡ walk_of (Instruction.Block i) (state_in c registers.now bytes) }
+// Of a block at `a` whose lowest address is `first`.
+#[tactic(auto, unfolding(crate::specs::Walk::walk))]
+pub fn walk(list: u32, first: u32, load: bool, a: u32, board: Board) -> Found
+    ensures { walked result ≡ walk (moves_from (named list) first) load a board }
 {
-    let end = limit(c.board);
-    let mut at = u64::from(lowest_address(i, registers));
+    let end = limit(board);
+    let mut at = u64::from(first);
     let mut looked = 0;
     let mut fetched = false;
-    for _n in NamedRegisters(i.list) {
+    for _n in NamedRegisters(list) {
         looked += 1;
         if u64::from(end) <= at {
             return Found {
@@ -38,7 +37,7 @@ pub fn walk(i: Block, registers: &[u32; 15], c: Context) -> Found
                 looked,
             };
         }
-        fetched |= !i.l & fetched_ahead(at as u32, c.a, c.board);
+        fetched |= !load & fetched_ahead(at as u32, a, board);
         at += 4;
     }
     let stop = if fetched {
@@ -47,4 +46,13 @@ pub fn walk(i: Block, registers: &[u32; 15], c: Context) -> Found
         Ok(())
     };
     Found { stop, looked }
+}
+
+// Its stop alone. Out of line, since few blocks meet one.
+#[cold]
+#[inline(never)]
+pub fn walk_stop(list: u32, first: u32, load: bool, a: u32, board: Board) -> Result<(), Stop>
+    ensures { stop_number result ≡ (walk (moves_from (named list) first) load a board).stop }
+{
+    walk(list, first, load, a, board).stop
 }

@@ -4,8 +4,8 @@
 use driver::arguments::Asked;
 use driver::comparison::Comparison;
 use driver::{
-    directed, hex, multiplies, random_images, rates, refills, rewritten, settles, starts, summary,
-    sums, words,
+    block_stops, directed, hex, multiplies, random_images, rates, refills, rewritten, settles,
+    starts, summary, sums, words,
 };
 use interpreter::pipeline::Core;
 use interpreter::plain::Plain;
@@ -13,10 +13,11 @@ use std::process::ExitCode;
 
 type Part = fn(&mut Comparison, u64);
 
-const PARTS: [Part; 12] = [
+const PARTS: [Part; 13] = [
     |comparison, _| starts::all::<Core>(comparison),
     |comparison, _| starts::all::<Plain>(comparison),
     |comparison, _| directed::all(comparison),
+    |comparison, _| block_stops::all(comparison),
     |comparison, _| multiplies::all(comparison),
     |comparison, _| settles::all(comparison),
     |comparison, _| sums::all(comparison),
