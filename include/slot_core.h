@@ -29,7 +29,7 @@ extern "C" {
  * changes. Each file that includes this header refers to slot_abi_2, which only an archive of that number has, so a
  * program built with this header and another archive does not link: "undefined reference to `slot_abi_2'". A language
  * without this header refers to slot_abi_2 itself, or looks it up before its first call. It answers the number. */
-#define SLOT_VERSION "0.10.0"
+#define SLOT_VERSION "0.11.0"
 #define SLOT_ABI 2
 uint32_t slot_abi_2(void);
 
