@@ -13,7 +13,7 @@ use transfer::named::NamedRegisters;
 
 // What a walk hands back.
 #[derive(Clone, Copy)]
-pub struct Found {
+pub struct Walked {
     // 24 or 25, if one is met.
     pub stop: Result<(), Stop>,
     // Up to and with the first register that meets 24, else all.
@@ -22,7 +22,7 @@ pub struct Found {
 
 // Of a block at `a` whose lowest address is `first`.
 #[tactic(auto, unfolding(crate::specs::Walk::walk))]
-pub fn walk(list: u32, first: u32, load: bool, a: u32, board: Board) -> Found
+pub fn walk(list: u32, first: u32, load: bool, a: u32, board: Board) -> Walked
     ensures { walked result ≡ walk (moves_from (named list) first) load a board }
 {
     let end = limit(board);
@@ -32,7 +32,7 @@ pub fn walk(list: u32, first: u32, load: bool, a: u32, board: Board) -> Found
     for _n in NamedRegisters(list) {
         looked += 1;
         if u64::from(end) <= at {
-            return Found {
+            return Walked {
                 stop: Err(Stop::OutsideMemory),
                 looked,
             };
@@ -45,7 +45,7 @@ pub fn walk(list: u32, first: u32, load: bool, a: u32, board: Board) -> Found
     } else {
         Ok(())
     };
-    Found { stop, looked }
+    Walked { stop, looked }
 }
 
 // Its stop alone. Out of line, since few blocks meet one.
