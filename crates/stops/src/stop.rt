@@ -60,7 +60,7 @@ fn moved_stop(first: u32, n: u32, load: bool, c: Context) -> Result<(), Stop>
 fn clear(first: u32, n: u32, load: bool, c: Context) -> bool
     ensures { result ≡ eqb (moved_stop (span n first) (pick load [] (span n first)) c.a c.board) 0 }
 {
-    !outside(first, n, c.board) && (load || !hits_ahead(first, n, c))
+    !(outside(first, n, c.board) || (!load && hits_ahead(first, n, c)))
 }
 
 pub fn processing_stop(i: Processing) -> Result<(), Stop>
@@ -91,9 +91,10 @@ pub fn block_stop(i: Block, registers: &[u32; 15], c: Context) -> Result<(), Sto
     let first = lowest_address(i, registers);
     // Sooner than the walk, which is for where there is a stop to find.
     if clear(first, count(i.list), i.l, c) {
-        return Ok(());
+        Ok(())
+    } else {
+        walk_stop(i.list, first, i.l, c.a, c.board)
     }
-    walk_stop(i.list, first, i.l, c.a, c.board)
 }
 
 pub fn multiply_stop(i: Multiply) -> Result<(), Stop>

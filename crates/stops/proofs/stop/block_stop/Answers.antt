@@ -9,6 +9,6 @@ pub returns-then-clear : goal.returns-then-clear
 returns-then-clear c bytes =
     block-clear _ _ c.count.ensures c.lowest_address-first.ensures c.in_ok-block_rule.ensures (sym c.clear.ensures ∙ c.if-clear.true)
 
-pub returns : goal.returns
+pub returns-else-clear : goal.returns-else-clear
 unfolding rule_broken moves_of stop_of
-returns c bytes = simp (sym c.in_ok-block_rule.ensures, ← c.lowest_address-first.ensures) c.walk_stop.ensures
+returns-else-clear c bytes = simp (sym c.in_ok-block_rule.ensures, ← c.lowest_address-first.ensures) c.walk_stop.ensures
