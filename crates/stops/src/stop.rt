@@ -60,7 +60,8 @@ fn moved_stop(first: u32, n: u32, load: bool, c: Context) -> Result<(), Stop>
 fn clear(first: u32, n: u32, load: bool, c: Context) -> bool
     ensures { result ≡ eqb (moved_stop (span n first) (pick load [] (span n first)) c.a c.board) 0 }
 {
-    !(outside(first, n, c.board) || (!load && hits_ahead(first, n, c)))
+    let met = outside(first, n, c.board) || (!load && hits_ahead(first, n, c));
+    !met
 }
 
 pub fn processing_stop(i: Processing) -> Result<(), Stop>
