@@ -19,7 +19,7 @@ fn overflows(a: u32, b: u32, r: u32, alike: bool) -> bool
 pub fn sum(a: u32, b: u32, c: bool) -> Computed
     ensures { result ≡ sum a b c }
 {
-    let more = u32::from(c);
+    let more = bits::number(c);
     let value = a.wrapping_add(b).wrapping_add(more);
     Computed {
         value,
@@ -34,7 +34,7 @@ pub fn sum(a: u32, b: u32, c: bool) -> Computed
 pub fn difference(a: u32, b: u32, c: bool) -> Computed
     ensures { result ≡ difference a b c }
 {
-    let more = u32::from(!c);
+    let more = bits::number(!c);
     let value = a.wrapping_sub(b).wrapping_sub(more);
     Computed {
         value,

@@ -112,7 +112,7 @@ fn ror(v: u32, n: u32) -> Shifted
     }
 }
 
-// By an amount that is not 0.
+// By an amount of places, of a kind.
 #[inline(always)]
 #[tactic(auto, unfolding(crate::specs::Shifter::shift))]
 fn by_kind(kind: u32, v: u32, n: u32) -> Shifted
@@ -130,7 +130,7 @@ fn by_kind(kind: u32, v: u32, n: u32) -> Shifted
 fn through_carry(v: u32, carry: bool) -> u32
     ensures { result ≡ v / 2 + num carry * 2 ^ 31 }
 {
-    v / 2 + u32::from(carry) * 0x80000000
+    v / 2 + bits::number(carry) * 0x80000000
 }
 
 // By an amount of 0 in the word.

@@ -55,12 +55,14 @@ impl Core {
     }
 
     // Cycles until the budget is spent or a stop is found. A refused call changes nothing.
-    pub fn run(mut self, memory: &mut [u8], budget: u64) -> Result<Ran<Core>, Refusal>
+    pub fn run(self, memory: &mut [u8], budget: u64) -> Result<Ran<Core>, Refusal>
         ensures { ran_as (seen memory.new) self result ≡ run (length memory.old) budget (seen memory.old self) }
     {
+        // Lent apart, so that the registers are copied once each way (docs/DECISIONS.md 63).
+        let mut registers = self.registers;
         let c = self.control;
-        let went = match at_once(memory.len(), budget, c, &self.registers)? {
-            None => run_from(c, &mut self.registers, memory, budget),
+        let went = match at_once(memory.len(), budget, c, &registers)? {
+            None => run_from(c, &mut registers, memory, budget),
             Some(stop) => Ran {
                 stop: Some(stop),
                 used: 0,
@@ -71,8 +73,8 @@ impl Core {
             stop: went.stop,
             used: went.used,
             machine: Core {
+                registers,
                 control: went.machine,
-                ..self
             },
         })
     }

@@ -84,7 +84,7 @@ impl Plain {
     }
 
     // Instructions until `count` are done or a stop is met. A refused call changes nothing.
-    pub fn run(mut self, memory: &mut [u8], count: u64) -> Result<Ran<Plain>, Refusal>
+    pub fn run(self, memory: &mut [u8], count: u64) -> Result<Ran<Plain>, Refusal>
         ensures { ran_as (λ p. machine p memory.new) self result ≡ run count (machine self memory.old) }
     {
         refusal(self, memory.len(), count)?;
@@ -102,18 +102,14 @@ impl Plain {
         };
         // Nobody asks for the sums of a plain run.
         let mut w = Tally::default();
-        let came = wholes(
-            &mut self.registers,
-            memory,
-            from,
-            count,
-            count * LONGEST,
-            &mut w,
-        );
+        // Lent apart, so that the record's fields need not stand in memory (docs/DECISIONS.md 63).
+        let mut registers = self.registers;
+        let came = wholes(&mut registers, memory, from, count, count * LONGEST, &mut w);
         Ok(Ran {
             stop: came.stop,
             used: came.done,
             machine: Plain {
+                registers,
                 a: came.a,
                 flags: came.flags,
                 stop: number(came.stop),

@@ -74,6 +74,8 @@ fn multiply_of(words: &RecordArray) -> Multiply
     }
 }
 
+// It stands inlined in its one caller, so that the record dissolves where it is written.
+#[inline(always)]
 #[tactic(auto, unfolding(crate::specs::RecordArray::record_of))]
 pub fn record_of(words: &RecordArray) -> Instruction
     ensures { result ≡ record_of words.now }

@@ -14,6 +14,6 @@ run_from-went-requires c = let r = room _ _ _ (c.in_ok-at_once.ensures c.args.me
 
 pub returns : goal.returns
 returns c = elim c.match-branch-2.branch [
-  | in-None w ↦ rw (w.memory-is, w.self-is, w.went-is) (begun _ _ _ (c.in_ok-at_once.ensures _) (ap held_number w.in-None.is) w.run_from-went.ensures)
-  | in-Some w ↦ rw (w.memory-is, w.self-is, w.went-is) (rw w.in-Some.is at (ended _ _ _ (c.in_ok-at_once.ensures c.args.memory.now) (rw w.in-Some.is (stops.some_number w.in-Some.stop))))
+  | in-None w ↦ rw (w.memory-is, w.registers-is, w.went-is) (begun _ _ _ (c.in_ok-at_once.ensures _) (ap held_number w.in-None.is) w.run_from-went.ensures)
+  | in-Some w ↦ rw (w.memory-is, w.registers-is, w.went-is) (rw w.in-Some.is at (ended _ _ _ (c.in_ok-at_once.ensures c.args.memory.now) (rw w.in-Some.is (stops.some_number w.in-Some.stop))))
 ]
