@@ -9,15 +9,16 @@ ghost use Rattle.steps.specs.declared.After.TheVariants.{Done};
 ghost use Rattle.steps.specs.Steps.{own};
 ghost use Rattle.cycle.specs.Machine.{machine};
 ghost use Rattle.cycle.specs.Room.{Summable, Countable, InOneStep};
-ghost use Rattle.cycle.specs.Cycle.{fetch, fetches, pipe_after, phase_after, retired_by, ended_sums, sums_after, counts_after, close, cycle};
+ghost use Rattle.cycle.specs.Cycle.{fetch, fetches, own_of, pipe_after, phase_after, retired_by, ended_sums, sums_after, counts_after, close, cycle};
 
-use crate::own::own;
+use crate::own::{refilled, step_under_way, step1};
 use crate::stop::is_step1;
 use crate::{Control, Counts, Pipe};
 use datapath::counter::{ahead, counter};
 use memory::{Board, fetch};
 use semantics::Sums;
 use semantics::kinds::{nsi, sums_of};
+use steps::ending::still;
 use steps::{After, Ended, Phase, Step};
 
 // IR2 becomes IR1, IR1 the word at PC, PC+4.
@@ -32,13 +33,37 @@ fn fetched(p: Pipe, memory: &[u8], board: Board) -> Pipe
     }
 }
 
-// The fetch runs in step 1 and both refills.
-fn fetches(phase: Phase, p: Pipe, memory: &[u8], board: Board) -> Pipe
-    ensures { result ≡ fetches phase p (memory_of board memory.now) }
+// What the cycle of a phase leaves: the pipe after its fetch, and the step.
+#[derive(Clone, Copy)]
+struct PhaseDone {
+    pipe: Pipe,
+    step: Step,
+}
+
+// The fetch runs in step 1 and both refills. One match does the fetch and the step: with one for each, the loop of a run tests the phase twice, and a
+// cycle takes up to half as long again (docs/DECISIONS.md 195).
+#[tactic(auto, unfolding(crate::specs::Cycle::own_of))]
+fn phase_done(c: Control, registers: &mut [u32; 15], memory: &mut [u8]) -> PhaseDone
+    ensures pipe { result.pipe ≡ fetches c.phase c.pipe (memory_of c.board memory.old) }
+    ensures step { own registers.new result.step (memory_of c.board memory.new) ≡ own_of c.phase (machine registers.old c memory.old) }
 {
-    match phase {
-        Phase::Step1 | Phase::Refill1 | Phase::Refill2 => fetched(p, memory, board),
-        Phase::Later(_) => p,
+    match c.phase {
+        Phase::Step1 => PhaseDone {
+            pipe: fetched(c.pipe, memory, c.board),
+            step: step1(c, registers),
+        },
+        Phase::Refill1 => PhaseDone {
+            pipe: fetched(c.pipe, memory, c.board),
+            step: still(c.flags, After::More(Phase::Refill2)),
+        },
+        Phase::Refill2 => PhaseDone {
+            pipe: fetched(c.pipe, memory, c.board),
+            step: still(c.flags, After::Done(refilled(c.pipe.ix))),
+        },
+        Phase::Later(k) => PhaseDone {
+            pipe: c.pipe,
+            step: step_under_way(c, k, registers, memory),
+        },
     }
 }
 
@@ -151,7 +176,6 @@ pub fn cycle(c: Control, registers: &mut [u32; 15], memory: &mut [u8]) -> Contro
     requires { Countable c.counts }
     ensures { machine registers.new result memory.new ≡ cycle (machine registers.old c memory.old) }
 {
-    let p = fetches(c.phase, c.pipe, memory, c.board);
-    let s = own(c, registers, memory);
-    close(s, p, c)
+    let done = phase_done(c, registers, memory);
+    close(done.step, done.pipe, c)
 }

@@ -15,7 +15,7 @@ use datapath::counter::R15;
 use steps::ending::still;
 use steps::first::first_step;
 use steps::later::later_step;
-use steps::{After, Ended, Found, Phase, Step};
+use steps::{After, Ended, Found, Step};
 
 // How a failed condition ends, at A+8 in pc: its one step is done, and the counter goes on.
 fn skips(pc: u32) -> After
@@ -24,7 +24,7 @@ fn skips(pc: u32) -> After
     After::Done(Ended::Skipped)
 }
 
-fn step1(c: Control, registers: &mut [u32; 15]) -> Step
+pub fn step1(c: Control, registers: &mut [u32; 15]) -> Step
     ensures { (mem : List ℕ) → own registers.new result (memory_of c.board mem) ≡ own_of Step1 (machine registers.old c mem) }
 {
     match c.pipe.ix {
@@ -43,7 +43,7 @@ fn step1(c: Control, registers: &mut [u32; 15]) -> Step
     }
 }
 
-fn step_under_way(c: Control, k: u32, registers: &mut [u32; 15], memory: &mut [u8]) -> Step
+pub fn step_under_way(c: Control, k: u32, registers: &mut [u32; 15], memory: &mut [u8]) -> Step
     ensures { own registers.new result (memory_of c.board memory.new) ≡ own_of (Later k) (machine registers.old c memory.old) }
 {
     match c.pipe.ix {
@@ -61,23 +61,11 @@ fn step_under_way(c: Control, k: u32, registers: &mut [u32; 15], memory: &mut [u
 }
 
 // A refill with IX blank is the start's.
-fn refilled(ix: Option<u32>) -> Ended
+pub fn refilled(ix: Option<u32>) -> Ended
     ensures { result ≡ refilled ix }
 {
     match ix {
         Some(_) => Ended::Executed(0),
         None => Ended::Start,
-    }
-}
-
-// What the cycle of this phase does besides the fetch.
-pub fn own(c: Control, registers: &mut [u32; 15], memory: &mut [u8]) -> Step
-    ensures { own registers.new result (memory_of c.board memory.new) ≡ own_of c.phase (machine registers.old c memory.old) }
-{
-    match c.phase {
-        Phase::Step1 => step1(c, registers),
-        Phase::Refill1 => still(c.flags, After::More(Phase::Refill2)),
-        Phase::Refill2 => still(c.flags, After::Done(refilled(c.pipe.ix))),
-        Phase::Later(k) => step_under_way(c, k, registers, memory),
     }
 }

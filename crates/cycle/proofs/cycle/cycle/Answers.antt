@@ -8,9 +8,9 @@ use Rattle.cycle.proofs.cycle.cycle.Goals as goal
 
 pub close-requires : goal.close-requires
 close-requires c = (
-  λ e h. one-step (machine c.args.registers.now c.args.c c.args.memory.now) e (ap (λ (o : Own). o.step.after) (sym c.own-s.ensures) ∙ h),
+  λ e h. one-step (machine c.args.registers.now c.args.c c.args.memory.now) e (ap (λ (o : Own). o.step.after) (sym c.phase_done-done.ensures.step) ∙ h),
   c.requires,
 )
 
 pub returns : goal.returns
-returns c = closed _ c.own-s.ensures c.fetches-p.ensures (c.close.ensures _ (memory_of c.args.c.board _))
+returns c = closed _ c.phase_done-done.ensures.step c.phase_done-done.ensures.pipe (c.close.ensures _ (memory_of c.args.c.board _))
