@@ -2,5 +2,5 @@ pub mod ByteLaws
 pub mod Laws
 pub mod Lanes
 pub mod Fetches
-pub mod Chunks
+pub mod FourBytes
 pub mod Lengths

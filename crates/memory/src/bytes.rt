@@ -1,6 +1,6 @@
 // Lent bytes as words and bytes, at a place in them. Every place is taken: one outside reads as 0, and a write there does nothing.
 ghost use Rattle.std.specs.Prelude.{◌≡◌};
-ghost use Rattle.memory.specs.Bytes.{word_base, word_in, with_word, byte_in, with_byte};
+ghost use Rattle.memory.specs.Bytes.{word_base, holds_word, word_in, with_word, byte_in, with_byte};
 
 // Where the word of a place begins.
 pub fn word_base(place: u32) -> u32
@@ -9,24 +9,33 @@ pub fn word_base(place: u32) -> u32
     place / 4 * 4
 }
 
+// The one bounds test of a word.
+#[tactic(auto, unfolding(crate::specs::Bytes::holds_word))]
+fn holds_word(memory: &[u8], place: u32) -> bool
+    ensures { result ≡ holds_word memory.now place }
+{
+    word_base(place) as usize + 3 < memory.len()
+}
+
 // The whole word of a place; 0 outside.
-#[tactic(auto, using(crate::proofs::Chunks::chunk_at, crate::proofs::Chunks::word_of_chunk, crate::proofs::Chunks::no_chunk))]
+#[tactic(auto, using(crate::proofs::FourBytes::four_inside, crate::proofs::ByteLaws::read_held, crate::proofs::ByteLaws::read_out))]
 pub fn word_in(memory: &[u8], place: u32) -> u32
     ensures { result ≡ word_in memory.now place }
 {
-    let (words, _) = memory.as_chunks::<4>();
-    match words.get((place / 4) as usize) {
-        Some(bytes) => u32::from_le_bytes(*bytes),
-        None => 0,
+    if holds_word(memory, place) {
+        let at = word_base(place) as usize;
+        u32::from_le_bytes([memory[at], memory[at + 1], memory[at + 2], memory[at + 3]])
+    } else {
+        0
     }
 }
 
-#[tactic(auto, using(crate::proofs::Chunks::word_over, crate::proofs::Chunks::not_written))]
+#[tactic(auto, using(crate::proofs::FourBytes::four_inside, crate::proofs::FourBytes::word_over, crate::proofs::FourBytes::not_written))]
 pub fn put_word(memory: &mut [u8], place: u32, value: u32)
     ensures { memory.new ≡ with_word memory.old place value }
 {
-    let at = word_base(place) as usize;
-    if at + 3 < memory.len() {
+    if holds_word(memory, place) {
+        let at = word_base(place) as usize;
         memory[at..at + 4].copy_from_slice(&value.to_le_bytes());
     }
 }

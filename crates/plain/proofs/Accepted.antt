@@ -9,7 +9,7 @@ use lib.Dec.{eqb, ltb, leb}
 use Rattle.stops.specs.Numbers.{no_word, fetched_word}
 use Rattle.bits.specs.Choice.{pick}
 use Rattle.plain.specs.declared.Plain.{Plain}
-use Rattle.plain.specs.Numbers.{most_budget, bad_entry, bad_flags, bad_budget, start_answer, is_stop, is_counter, bad, refusal}
+use Rattle.plain.specs.Numbers.{most_budget, bad_entry, bad_flags, bad_budget, start_answer, is_stop, bad, refusal}
 use Rattle.plain.specs.Refused.{budget_refused, record_refused, other_memory}
 use Rattle.memory.specs.Lengths.{bad_length, GoodLength}
 use Rattle.memory.proofs.Lengths.{neither, good_length, length-good}
@@ -83,7 +83,7 @@ standing p lent n e = by_length (not (eqb lent p.board.size)) (sym e)
   where
     by-record : (a : Bool) → bad p ≡ a → pick a record_refused (pick (bad_budget n) budget_refused 0) ≡ 0 → is_stop p.stop ≡ true
     by-record true t f = absurd (omega (arith, f))
-    by-record false t f = not-false _ (neither (bad_length p.board.size || not (is_counter p.a) || bad_flags p.flags) (not (is_stop p.stop)) t).1
+    by-record false t f = not-false _ (neither _ (not (is_stop p.stop)) t).1
 
     by_length : (a : Bool) → pick a other_memory (pick (bad p) record_refused (pick (bad_budget n) budget_refused 0)) ≡ 0 → is_stop p.stop ≡ true
     by_length true f = absurd (omega (arith, f))

@@ -70,14 +70,24 @@ module _ (w : Tally) where
       → t ≡ (base_then_register i s.registers s.status base value).goes
       → v ≡ with_refills (raised w load_sums) (load_effect i s).out.goes
   unfolding load_effect
-  load-counts i s b d x e f g = rw (e, f, g, x, d, b)
+  load-counts i s {value = value} b d x e f g =
+      e
+      ∙ rw f (ap (with_refills (raised w load_sums))
+      (g
+      ∙ ap (λ (z : ℕ). (base_then_register i s.registers s.status z value).goes) b
+      ∙ ap (λ (z : ℕ). (base_then_register i s.registers s.status (single.changed_base i s.registers s.status (ahead s.a 8)) z).goes) (x ∙ ap (single.loaded_value i s.memory) d)))
 
   pub block-load-counts : (i : Block) (s : State) {v u : Tally} {base lowest : ℕ} {t : Option ℕ}
       → lowest ≡ block.lowest_address i s.registers → base ≡ block.changed_base i s.registers → v ≡ with_refills u t → u ≡ raised w (block_load_sums (block.count i))
       → t ≡ (base_then_registers i s.registers s.status base lowest s.memory).goes
       → v ≡ with_refills (raised w (block_load_sums (block.count i))) (block_load_effect i s).out.goes
   unfolding block_load_effect
-  block-load-counts i s l b e f g = rw (e, f, g, l, b)
+  block-load-counts i s {base = base} l b e f g =
+      e
+      ∙ rw f (ap (with_refills (raised w (block_load_sums (block.count i))))
+      (g
+      ∙ ap (λ (z : ℕ). (base_then_registers i s.registers s.status base z s.memory).goes) l
+      ∙ ap (λ (z : ℕ). (base_then_registers i s.registers s.status z (block.lowest_address i s.registers) s.memory).goes) b))
 
   -- ---- by class
 
